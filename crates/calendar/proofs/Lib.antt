@@ -1,0 +1,5 @@
+pub mod StartLaws
+pub mod PeriodLaws
+pub mod ExistsLaws
+pub mod DateLaws
+pub mod CalendarLaws

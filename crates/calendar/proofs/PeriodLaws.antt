@@ -1,0 +1,116 @@
+-- Years and months as starts (StartLaws).
+--     year-next, month-next, month-gap     the next start; a month's length is what lies between its start and the next
+--     year-end, month-end                  where the last year ends; where a year ends, by months
+--     month-table                          a list of month starts, tested at one leap year or one common year, serves all
+--     year-stays, year-moves, year-last    the year of a day is the guess by 366, or the next
+--     month-below, month-stays, month-moves     the month of a day of a year is the guess by 31, or the next
+--     year-place, month-place, year-is, month-is     the year of a day, and the month of a day of a year, by where they start and end
+-- Assumes nothing.
+use Prim.Native.Nat.{ℕ, zero, suc, _+_, _-_, _/_, _<_, _≤_, zero-le}
+use mathlib.Core.Path.{_≡_, refl, sym, _∙_}
+use mathlib.Core.Bool.{Bool, true, false}
+use native.Mathlib.Nat.{not-suc-le-zero}
+use native.Mathlib.Numerals.{one-add}
+use native.Mathlib.Omega.{arith}
+use mathlib.Core.List.{List}
+use lib.Dec.{T, lit<}
+use lib.ListN.{length, getD}
+use Rattle.calendar.specs.Calendar.{leap, yearLength, monthLength, yearStart, monthStart, yearOn, monthOn}
+use Rattle.calendar.proofs.StartLaws.{runs, run-at, near, Placed, place-in, place-is, guess-below, guess-stays, guess-next}
+
+pub year-next : (k : ℕ) → yearStart (suc k) ≡ yearStart k + yearLength (2001 + k)
+unfolding yearStart
+year-next k = refl
+
+pub month-next : (y j : ℕ) → monthStart y (suc j) ≡ monthStart y j + monthLength y (1 + j)
+unfolding monthStart
+month-next y j = refl
+
+pub month-gap : (y m : ℕ) → 0 < m → monthStart y m ≡ monthStart y (m - 1) + monthLength y m
+month-gap y zero h = absurd (not-suc-le-zero h)
+month-gap y (suc j) h = let e : suc j - 1 ≡ j = omega arith in rw e (rw (one-add j) at (month-next y j))
+
+year-begins : yearStart 0 ≡ 0
+unfolding yearStart
+year-begins = refl
+
+month-begins : (y : ℕ) → monthStart y 0 ≡ 0
+unfolding monthStart
+month-begins y = refl
+
+pub year-end : yearStart 400 ≡ 146097
+unfolding yearStart yearLength leap
+year-end = refl
+
+month-end-of : (y : ℕ) (b : Bool) → leap y ≡ b → monthStart y 12 ≡ yearLength y
+unfolding monthStart monthLength yearLength
+month-end-of y true e = simp e
+month-end-of y false e = simp e
+
+pub month-end : (y : ℕ) → monthStart y 12 ≡ yearLength y
+month-end y = month-end-of y (leap y) refl
+
+-- months start alike in two leap years, and in two common years
+alike : (y z : ℕ) → leap y ≡ leap z → (j : ℕ) → monthStart y j ≡ monthStart z j
+unfolding monthStart monthLength
+alike y z e zero = refl
+alike y z e (suc j) = rw (alike y z e j, e)
+
+pub month-table : (y z : ℕ) → leap y ≡ leap z → (xs : List ℕ) → T (runs (λ j. monthLength z (1 + j)) 0 (monthStart z 0) xs) → (i : ℕ)
+    → i < length xs → getD xs i 0 ≡ monthStart y i
+month-table y z e xs t i h = run-at (monthStart z) _ (month-next z) xs t i h ∙ sym (alike y z e i)
+
+-- 1 January of year k lies from 366 * (k - 1) to 366 * k days after day 0: one computed test over all years
+year-near : T (near (λ k. yearLength (2001 + k)) 366 400 0 (yearStart 0))
+unfolding yearStart yearLength leap
+year-near = tt
+
+-- likewise the months of a year, by 31
+month-near-of : (y : ℕ) (b : Bool) → leap y ≡ b → T (near (λ j. monthLength y (1 + j)) 31 12 0 (monthStart y 0))
+unfolding monthStart monthLength
+month-near-of y true e = simp e tt
+month-near-of y false e = simp e tt
+
+month-near : (y : ℕ) → T (near (λ j. monthLength y (1 + j)) 31 12 0 (monthStart y 0))
+month-near y = month-near-of y (leap y) refl
+
+module _ (day : ℕ) (ends : day < yearStart 400) where
+  pub year-stays : day < yearStart (day / 366 + 1) → yearOn day ≡ day / 366
+  unfolding yearOn
+  year-stays = guess-stays yearStart _ year-next year-begins 366 400 (lit< tt) year-near day ends
+
+  pub year-moves : yearStart (day / 366 + 1) ≤ day → yearOn day ≡ day / 366 + 1
+  unfolding yearOn
+  year-moves = guess-next yearStart _ year-next year-begins 366 400 (lit< tt) year-near day ends
+
+  -- in the last year there is no next
+  pub year-last : 399 ≤ day / 366 → yearOn day ≡ day / 366
+  year-last h = let e : day / 366 + 1 ≡ 400 = omega (arith, year-end) in year-stays (rw e ends)
+
+  pub year-place : (k : ℕ) → k ≡ yearOn day → Placed 400 yearStart day k
+  unfolding yearOn
+  year-place k e = rw e (place-in yearStart _ year-next 400 day (rw year-begins zero-le) ends)
+
+module _ (y n : ℕ) (ends : n < monthStart y 12) where
+  pub month-below : n / 31 < 12
+  month-below = guess-below (monthStart y) _ (month-next y) (month-begins y) 31 12 (lit< tt) (month-near y) n ends
+
+  pub month-stays : n < monthStart y (n / 31 + 1) → monthOn y n ≡ n / 31
+  unfolding monthOn
+  month-stays = guess-stays (monthStart y) _ (month-next y) (month-begins y) 31 12 (lit< tt) (month-near y) n ends
+
+  pub month-moves : monthStart y (n / 31 + 1) ≤ n → monthOn y n ≡ n / 31 + 1
+  unfolding monthOn
+  month-moves = guess-next (monthStart y) _ (month-next y) (month-begins y) 31 12 (lit< tt) (month-near y) n ends
+
+  pub month-place : (j : ℕ) → j ≡ monthOn y n → Placed 12 (monthStart y) n j
+  unfolding monthOn
+  month-place j e = rw e (place-in (monthStart y) _ (month-next y) 12 n (rw (month-begins y) zero-le) ends)
+
+pub year-is : (day k : ℕ) → Placed 400 yearStart day k → yearOn day ≡ k
+unfolding yearOn
+year-is day k = place-is yearStart _ year-next 400 day k
+
+pub month-is : (y n j : ℕ) → Placed 12 (monthStart y) n j → monthOn y n ≡ j
+unfolding monthOn
+month-is y n j = place-is (monthStart y) _ (month-next y) 12 n j

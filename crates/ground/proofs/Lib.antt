@@ -1,0 +1,5 @@
+pub mod BoolLaws
+pub mod OutcomeLaws
+pub mod JudgementLaws
+pub mod SearchLaws
+pub mod SequenceLaws

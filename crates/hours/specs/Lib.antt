@@ -1,0 +1,5 @@
+pub mod Hours
+pub mod HoursBytes
+pub mod HoursRefusals
+pub mod HoursWell
+pub mod Answers

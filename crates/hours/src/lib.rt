@@ -1,0 +1,207 @@
+// Hours: references, and records read from their bytes.
+ghost use mathlib.Core.Path.{_≡_};
+ghost use mathlib.Core.Bool.{false, _||_};
+ghost use Prim.Native.Nat.{_+_, _*_, _%_, _≤_, _<_};
+ghost use lib.Dec.{eqb, ltb};
+ghost use lib.ListN.{length};
+ghost use Rattle.ground.specs.Judgement.{inTurn};
+ghost use Rattle.ground.specs.Search.{anyBelow};
+ghost use Rattle.minutes.specs.Minutes.{inPhase};
+ghost use Rattle.hours.specs.Hours.{refOf, dangling, holds};
+ghost use Rattle.hours.specs.HoursBytes.{pairsAt, offsetAt, lengthAt, hoursAt};
+ghost use Rattle.hours.specs.HoursRefusals.{pairJudged, recordJudged};
+ghost use Rattle.hours.specs.Answers.{hoursGiven, hoursOutcome, RecordsRead, holding, refIn};
+
+// An hours reference: always, or the number of an hours record.
+pub enum HoursRef {
+    Always,
+    Numbered(u8),
+}
+
+// The reference that a byte stands for.
+pub fn decode(b: u8) -> HoursRef
+    ensures { λ r. ⌜ r ≡ refOf b ⌝ }
+{
+    if b == 255 {
+        HoursRef::Always
+    } else {
+        HoursRef::Numbered(b)
+    }
+}
+
+// Whether a reference names no record, where there are h records.
+pub fn dangles(r: HoursRef, h: usize) -> bool
+    ensures { λ d. ⌜ d ≡ dangling h r ⌝ }
+{
+    match r {
+        HoursRef::Always => false,
+        HoursRef::Numbered(k) => h <= k as usize,
+    }
+}
+
+// Whether a reference holds, by the set of the records that hold.
+pub fn ref_holds(r: HoursRef, set: u64, h: usize) -> bool
+    requires { ⌜ (dangling h r ≡ false) × (h ≤ 32) ⌝ }
+    ensures { λ b. ⌜ b ≡ refIn set r ⌝ }
+{
+    match r {
+        HoursRef::Always => true,
+        HoursRef::Numbered(k) => bitset::contains(set, k as u32),
+    }
+}
+
+// An hours record is accepted with the number of its pairs, or refused.
+pub enum HoursAnswer {
+    Accepted(u32),
+    Refused(u8),
+}
+
+// Whether a pair is refused that may start at `low` or later.
+fn pair_refused(offset: u32, length: u32, cycle: u32, low: u32) -> bool
+    requires { ⌜ (offset < 65536) × (length < 65536) ⌝ }
+    ensures { λ r. ⌜ r ≡ (eqb length 0 || ltb cycle (offset + length) || ltb offset low) ⌝ }
+{
+    if length == 0 {
+        return true;
+    }
+    if cycle < offset + length {
+        return true;
+    }
+    offset < low
+}
+
+// The first refusal of the n pairs that begin at `at`, else 0.
+fn judge_pairs(s: &[u8], cycle: u32, at: usize, n: usize) -> u8
+    requires { ⌜ at + 4 * n ≤ length (now s) ⌝ }
+    ensures { λ r. ⌜ r ≡ inTurn (pairJudged (now (s .entry)) cycle at) n ⌝ }
+{
+    let mut j = 0;
+    let mut low = 0;
+    while j < n {
+        let offset = endian::read16(s, at + 4 * j) as u32;
+        let length = endian::read16(s, at + 4 * j + 2) as u32;
+        if pair_refused(offset, length, cycle, low) {
+            return 8;
+        }
+        low = offset + length + 1;
+        j += 1;
+    }
+    0
+}
+
+// Judges the hours record at `at`, for a cycle, with `total` pairs in the records before it.
+pub fn judge(s: &[u8], cycle: u32, at: usize, total: u32) -> HoursAnswer
+    ensures { λ r. ⌜ hoursGiven r ≡ hoursOutcome (now (s .entry)) cycle at total ⌝ }
+{
+    if s.len() < 10 {
+        return HoursAnswer::Refused(5);
+    }
+    if s.len() - 10 < at {
+        return HoursAnswer::Refused(5);
+    }
+    let end = endian::read32(s, at + 4);
+    if end <= endian::read32(s, at) {
+        return HoursAnswer::Refused(6);
+    }
+    if minutes::END < end {
+        return HoursAnswer::Refused(6);
+    }
+    let n = endian::read16(s, at + 8) as u32;
+    if n == 0 {
+        return HoursAnswer::Refused(7);
+    }
+    if 256 < n {
+        return HoursAnswer::Refused(7);
+    }
+    if 256 - n < total {
+        return HoursAnswer::Refused(7);
+    }
+    let count = n as usize;
+    if s.len() < at + 10 + 4 * count {
+        return HoursAnswer::Refused(5);
+    }
+    let bad = judge_pairs(s, cycle, at + 10, count);
+    if bad != 0 {
+        return HoursAnswer::Refused(bad);
+    }
+    HoursAnswer::Accepted(n)
+}
+
+// What a walk over hours records leaves: a refusal, or 0 and where the records end.
+pub struct Walk {
+    pub code: u8,
+    pub at: usize,
+}
+
+// The first refusal of the h records from `from` on.
+pub fn judge_all(s: &[u8], cycle: u32, from: usize, h: usize) -> Walk
+    requires { ⌜ from ≤ length (now s) ⌝ }
+    ensures { λ r. ⌜ RecordsRead (now (s .entry)) cycle from h (r .code) (r .at) ⌝ }
+{
+    let mut k = 0;
+    let mut at = from;
+    let mut total = 0;
+    while k < h {
+        match judge(s, cycle, at, total) {
+            HoursAnswer::Refused(code) => {
+                return Walk { code, at };
+            }
+            HoursAnswer::Accepted(n) => {
+                at = at + 10 + 4 * (n as usize);
+                total += n;
+                k += 1;
+            }
+        }
+    }
+    Walk { code: 0, at }
+}
+
+// Whether one of the n pairs that begin at `at` has phase x.
+fn any_pair(s: &[u8], at: usize, n: usize, cycle: u32, t: u32, x: u32) -> bool
+    requires { ⌜ (at + 4 * n ≤ length (now s)) × (x ≡ t % cycle) ⌝ }
+    ensures { λ r. ⌜ r ≡ anyBelow n (λ j. inPhase cycle (offsetAt (now (s .entry)) at j) (lengthAt (now (s .entry)) at j) t) ⌝ }
+{
+    let mut j = 0;
+    while j < n {
+        let offset = endian::read16(s, at + 4 * j) as u32;
+        let length = endian::read16(s, at + 4 * j + 2) as u32;
+        if minutes::in_span(offset, length, x) {
+            return true;
+        }
+        j += 1;
+    }
+    false
+}
+
+// Whether the record at `at` holds at minute t.
+pub fn record_holds(s: &[u8], cycle: u32, at: usize, t: u32) -> bool
+    requires { ⌜ (at + 10 + 4 * pairsAt (now s) at ≤ length (now s)) × (0 < cycle) ⌝ }
+    ensures { λ r. ⌜ r ≡ holds cycle (hoursAt (now (s .entry)) at) t ⌝ }
+{
+    let begin = endian::read32(s, at);
+    let end = endian::read32(s, at + 4);
+    if minutes::during(begin, end, t) {
+        let n = endian::read16(s, at + 8) as usize;
+        any_pair(s, at + 10, n, cycle, t, minutes::phase(cycle, t))
+    } else {
+        false
+    }
+}
+
+// The numbers of the h records from `from` on that hold at minute t, of records that are not refused.
+pub fn holding_at(s: &[u8], cycle: u32, from: usize, h: usize, t: u32) -> u64
+    requires { ⌜ (inTurn (recordJudged (now s) cycle from) h ≡ 0) × (h ≤ 32) × (0 < cycle) ⌝ }
+    ensures { λ r. ⌜ r ≡ holding (now (s .entry)) cycle from h t ⌝ }
+{
+    let mut set = 0;
+    let mut k = 0;
+    let mut at = from;
+    while k < h {
+        if record_holds(s, cycle, at, t) {
+            set = bitset::with(set, k as u32);
+        }
+        at = at + 10 + 4 * (endian::read16(s, at + 8) as usize);
+        k += 1;
+    }
+    set
+}

@@ -1,0 +1,11 @@
+use mathlib.Core.Path.{refl}
+use Rattle.minutes.specs.Minutes.{E}
+use Rattle.minutes.proofs.is_past.Statement.{statement}
+use Rattle.minutes.proofs.is_past.Tie as tie
+
+returns : tie.Need-returns
+unfolding E
+returns c = refl
+
+pub is-past-spec : {M : Type 1} → statement M
+is-past-spec = tie.close (tie.spec returns)

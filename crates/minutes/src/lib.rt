@@ -1,0 +1,41 @@
+// The minutes of the archive's calendar, and the window that hours records and table rows share.
+ghost use mathlib.Core.Path.{_≡_};
+ghost use Prim.Native.Nat.{_<_, _%_, _+_};
+ghost use lib.Dec.{leb};
+ghost use Rattle.minutes.specs.Minutes.{E, within};
+
+// One past the last minute (E of document 01).
+pub const END: u32 = 210379680;
+
+// Whether t is past the last minute.
+pub fn is_past(t: u32) -> bool
+    ensures { λ r. ⌜ r ≡ leb E t ⌝ }
+{
+    END <= t
+}
+
+// begin ≤ t < end
+pub fn during(begin: u32, end: u32, t: u32) -> bool
+    ensures { λ r. ⌜ r ≡ within begin end t ⌝ }
+{
+    if t < begin { false } else { t < end }
+}
+
+// Where minute t stands in a cycle.
+pub fn phase(cycle: u32, t: u32) -> u32
+    requires { ⌜ 0 < cycle ⌝ }
+    ensures { λ r. ⌜ r ≡ t % cycle ⌝ }
+{
+    t % cycle
+}
+
+// offset ≤ x < offset + length
+pub fn in_span(offset: u32, length: u32, x: u32) -> bool
+    ensures { λ r. ⌜ r ≡ within offset (offset + length) x ⌝ }
+{
+    if x < offset {
+        false
+    } else {
+        x - offset < length
+    }
+}

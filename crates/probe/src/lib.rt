@@ -1,0 +1,236 @@
+// Exports for the tests alone: leaves and by-value forms of the proved crates, as numbers, byte slices and plain structs.
+use bitset::contains;
+use calendar::DateAnswer;
+use calendar::MinuteAnswer;
+use hours::HoursAnswer;
+
+// A number that was found, or nothing.
+#[repr(C)]
+pub struct Found {
+    pub found: u32,
+    pub value: u64,
+}
+
+// The number of 2, 4 or 8 bytes at `at`.
+#[no_mangle]
+pub extern "C" fn probe_get(s: &[u8], at: usize, width: u32) -> Found {
+    let nothing = Found { found: 0, value: 0 };
+    if s.len() < at {
+        return nothing;
+    }
+    let left = s.len() - at;
+    if width == 2 {
+        if left < 2 {
+            return nothing;
+        }
+        return Found {
+            found: 1,
+            value: endian::read16(s, at) as u64,
+        };
+    }
+    if width == 4 {
+        if left < 4 {
+            return nothing;
+        }
+        return Found {
+            found: 1,
+            value: endian::read32(s, at) as u64,
+        };
+    }
+    if width == 8 {
+        if left < 8 {
+            return nothing;
+        }
+        return Found {
+            found: 1,
+            value: endian::read64(s, at),
+        };
+    }
+    nothing
+}
+
+// Writes a number of 2, 4 or 8 bytes at `at`: 1 where it is written, 0 where it does not fit.
+#[no_mangle]
+pub extern "C" fn probe_put(d: &mut [u8], at: usize, width: u32, value: u64) -> u32 {
+    if d.len() < at {
+        return 0;
+    }
+    let left = d.len() - at;
+    if width == 2 {
+        if left < 2 {
+            return 0;
+        }
+        if 65535 < value {
+            return 0;
+        }
+        endian::write16(d, at, value as u16);
+        return 1;
+    }
+    if width == 4 {
+        if left < 4 {
+            return 0;
+        }
+        if 4294967295 < value {
+            return 0;
+        }
+        endian::write32(d, at, value as u32);
+        return 1;
+    }
+    if width == 8 {
+        if left < 8 {
+            return 0;
+        }
+        endian::write64(d, at, value);
+        return 1;
+    }
+    0
+}
+
+fn flag(b: bool) -> u32 {
+    if b { 1 } else { 0 }
+}
+
+#[no_mangle]
+pub extern "C" fn probe_set_has(set: u64, i: u32) -> u32 {
+    if 64 <= i {
+        return 0;
+    }
+    flag(contains(set, i))
+}
+
+#[no_mangle]
+pub extern "C" fn probe_set_with(set: u64, i: u32) -> u64 {
+    if 64 <= i {
+        return set;
+    }
+    bitset::with(set, i)
+}
+
+#[no_mangle]
+pub extern "C" fn probe_set_without(set: u64, i: u32) -> u64 {
+    if 64 <= i {
+        return set;
+    }
+    bitset::without(set, i)
+}
+
+#[no_mangle]
+pub extern "C" fn probe_set_union(a: u64, b: u64) -> u64 {
+    bitset::either(a, b)
+}
+
+#[no_mangle]
+pub extern "C" fn probe_set_difference(a: u64, b: u64) -> u64 {
+    bitset::lost(a, b)
+}
+
+#[no_mangle]
+pub extern "C" fn probe_set_is_empty(a: u64) -> u32 {
+    flag(bitset::is_empty(a))
+}
+
+#[no_mangle]
+pub extern "C" fn probe_set_count(a: u64) -> u32 {
+    bitset::size(a)
+}
+
+#[no_mangle]
+pub extern "C" fn probe_set_count_lost(before: u64, after: u64) -> u32 {
+    bitset::count_lost(before, after)
+}
+
+#[repr(C)]
+pub struct HoursJudged {
+    pub refusal: u32,
+    pub pairs: u32,
+}
+
+#[no_mangle]
+pub extern "C" fn probe_hours_judge(s: &[u8], at: usize, cycle: u32, total: u32) -> HoursJudged {
+    match hours::judge(s, cycle, at, total) {
+        HoursAnswer::Accepted(n) => HoursJudged {
+            refusal: 0,
+            pairs: n,
+        },
+        HoursAnswer::Refused(n) => HoursJudged {
+            refusal: n as u32,
+            pairs: 0,
+        },
+    }
+}
+
+#[repr(C)]
+pub struct Held {
+    pub refusal: u32,
+    pub holds: u32,
+}
+
+// Whether the record at 0 holds at minute t, where it is not refused.
+#[no_mangle]
+pub extern "C" fn probe_hours_hold(s: &[u8], cycle: u32, t: u32) -> Held {
+    match hours::judge(s, cycle, 0, 0) {
+        HoursAnswer::Refused(n) => Held {
+            refusal: n as u32,
+            holds: 0,
+        },
+        HoursAnswer::Accepted(_) => Held {
+            refusal: 0,
+            holds: flag(hours::record_holds(s, cycle, 0, t)),
+        },
+    }
+}
+
+#[repr(C)]
+pub struct Date {
+    pub refusal: u32,
+    pub year: u32,
+    pub month: u32,
+    pub day: u32,
+    pub weekday: u32,
+    pub hour: u32,
+    pub minute: u32,
+}
+
+#[no_mangle]
+pub extern "C" fn probe_date(minute: u32) -> Date {
+    match calendar::date_of(minute) {
+        DateAnswer::On(d) => Date {
+            refusal: 0,
+            year: d.year,
+            month: d.month,
+            day: d.day,
+            weekday: d.weekday,
+            hour: d.hour,
+            minute: d.minute,
+        },
+        DateAnswer::Refused(n) => Date {
+            refusal: n as u32,
+            year: 0,
+            month: 0,
+            day: 0,
+            weekday: 0,
+            hour: 0,
+            minute: 0,
+        },
+    }
+}
+
+#[repr(C)]
+pub struct Minute {
+    pub refusal: u32,
+    pub minute: u32,
+}
+
+#[no_mangle]
+pub extern "C" fn probe_minute(year: u32, month: u32, day: u32, hour: u32, minute: u32) -> Minute {
+    match calendar::minute_of(year, month, day, hour, minute) {
+        MinuteAnswer::At(t) => Minute {
+            refusal: 0,
+            minute: t,
+        },
+        MinuteAnswer::Refused(n) => Minute {
+            refusal: n as u32,
+            minute: 0,
+        },
+    }
+}

@@ -1,0 +1,62 @@
+use Rattle.rota.proofs.ReadLaws.{rows-as, rest-length, rest-roles, rest-users, rest-permissions}
+use Rattle.rota.proofs.RotaFine.{header-fine}
+use Rattle.rota.specs.RotaRefusals.{roleJudged}
+use Rattle.ground.specs.Judgement.{inTurn}
+use mathlib.Core.Path.{sym, ap, _∙_}
+use native.Mathlib.Omega.{arith}
+use borrow.Author.Needs.{needs}
+use Rattle.rota.proofs.judge_rest.Statement.{statement}
+use Rattle.rota.proofs.judge_rest.Tie as tie
+
+add-first : tie.Need-add-first
+add-first c = let m = c .before .pre in omega (arith, header-fine _ (m .header), m .roles-are, m .user-rows, m .permission-rows, m .within)
+
+mul-second : tie.Need-mul-second
+mul-second c = let m = c .before .pre in omega (arith, header-fine _ (m .header), m .roles-are, m .user-rows, m .permission-rows, m .within)
+
+add-second : tie.Need-add-second
+add-second c = let m = c .before .pre in omega (arith, header-fine _ (m .header), m .roles-are, m .user-rows, m .permission-rows, m .within)
+
+mul-if1 : tie.Need-mul-if1
+mul-if1 c = let m = c .before .pre in omega (arith, header-fine _ (m .header), m .roles-are, m .user-rows, m .permission-rows, m .within)
+
+add-if1 : tie.Need-add-if1
+add-if1 c = let m = c .before .pre in omega (arith, header-fine _ (m .header), m .roles-are, m .user-rows, m .permission-rows, m .within)
+
+returns : tie.Need-returns
+returns c = let m = c .before .before .pre in rest-length _ (λ e. c .if1 .taken (e ∙ omega (arith, m .ends, m .roles-are, m .user-rows, m .permission-rows)))
+
+judge-roles-requires : tie.Need-judge-roles-requires
+judge-roles-requires c κs = search needs
+
+returns-2 : tie.Need-returns-2
+returns-2 c = let m = c .before .before .before .before .pre in rest-roles _ (omega (arith, c .before .before .if1 .left, m .ends, m .roles-are, m .user-rows, m .permission-rows)) _ (c .before .judge-roles .ensures ∙ ap (inTurn (roleJudged _)) (m .roles-are)) (c .if2 .taken)
+
+judge-rows-requires : tie.Need-judge-rows-requires
+judge-rows-requires c κs = search needs
+
+returns-3 : tie.Need-returns-3
+returns-3 c = let m = c .before .before .before .before .before .before .pre in rest-users _ (omega (arith, c .before .before .before .before .if1 .left, m .ends, m .roles-are, m .user-rows, m .permission-rows)) (sym (c .before .before .before .judge-roles .ensures ∙ ap (inTurn (roleJudged _)) (m .roles-are)) ∙ c .before .before .if2 .left) _ (c .before .judge-rows .ensures ∙ rows-as _ 11 (m .users-are) (omega (arith, m .ends, m .roles-are)) (m .user-rows)) (c .if3 .taken)
+
+judge-rows-requires-2 : tie.Need-judge-rows-requires-2
+judge-rows-requires-2 c κs = search needs
+
+returns-4 : tie.Need-returns-4
+returns-4 c = let m = c .before .before .before .before .before .before .before .pre in rest-permissions _ (omega (arith, c .before .before .before .before .before .if1 .left, m .ends, m .roles-are, m .user-rows, m .permission-rows)) (sym (c .before .before .before .before .judge-roles .ensures ∙ ap (inTurn (roleJudged _)) (m .roles-are)) ∙ c .before .before .before .if2 .left) _ (sym (c .before .before .judge-rows .ensures ∙ rows-as _ 11 (m .users-are) (omega (arith, m .ends, m .roles-are)) (m .user-rows)) ∙ c .before .if3 .left) (c .judge-rows2 .ensures ∙ rows-as _ 12 (m .permissions-are) (omega (arith, m .ends, m .roles-are, m .user-rows)) (m .permission-rows))
+
+pub judge-rest-spec : {M : Type 1} → statement M
+judge-rest-spec =
+    tie.close
+    (tie.spec
+    add-first
+    mul-second
+    add-second
+    mul-if1
+    add-if1
+    returns
+    judge-roles-requires
+    returns-2
+    judge-rows-requires
+    returns-3
+    judge-rows-requires-2
+    returns-4)

@@ -1,0 +1,33 @@
+//! Reading a table and asking it.
+
+use super::rota::{Answered, Holders};
+
+#[repr(C)]
+#[derive(Clone, Copy, Debug, Default, PartialEq, Eq)]
+pub struct TableRead {
+    pub refusal: u32,
+    pub cycle: u32,
+    pub users: u32,
+    pub permissions: u32,
+    pub roles: u32,
+    pub derived: u32,
+    pub rows: u32,
+}
+
+unsafe extern "C" {
+    fn probe_table_read(s: *const u8, len: usize) -> TableRead;
+    fn probe_table_question(s: *const u8, len: usize, u: u32, p: u32, t: u32) -> Answered;
+    fn probe_table_holders(s: *const u8, len: usize, t: u32) -> Holders;
+}
+
+pub fn read(bytes: &[u8]) -> TableRead {
+    unsafe { probe_table_read(bytes.as_ptr(), bytes.len()) }
+}
+
+pub fn question(bytes: &[u8], user: u32, permission: u32, t: u32) -> Answered {
+    unsafe { probe_table_question(bytes.as_ptr(), bytes.len(), user, permission, t) }
+}
+
+pub fn holders(bytes: &[u8], t: u32) -> Holders {
+    unsafe { probe_table_holders(bytes.as_ptr(), bytes.len(), t) }
+}

@@ -1,0 +1,380 @@
+//! Tables: read, asked, and asked who holds anything; rewritten, made by hand and damaged.
+
+use comparison::case::{Case, Tally, cases};
+use comparison::{expected, ffi, generate};
+use reference::rewriting;
+use reference::table::{DerivedRole, Row, Table};
+use reference::{END, Refusal};
+
+/// Bytes with what the reference reads in them, so that it reads them once.
+struct Lent {
+    bytes: Vec<u8>,
+    table: Result<Table, Refusal>,
+}
+
+impl Lent {
+    fn new(bytes: Vec<u8>) -> Lent {
+        let table = Table::parse(&bytes);
+        Lent { bytes, table }
+    }
+}
+
+fn compare_read(case: &Case, tally: &mut Tally, lent: &Lent) {
+    let expected = expected::table::read(&lent.table);
+    tally.add(expected.refusal);
+    case.same(ffi::table::read(&lent.bytes), expected, &lent.bytes, "read");
+}
+
+fn compare_question(
+    case: &Case,
+    tally: &mut Tally,
+    lent: &Lent,
+    user: u32,
+    permission: u32,
+    t: u32,
+) {
+    let expected = expected::table::question(&lent.table, user, permission, t);
+    tally.add(expected.refusal);
+    let proved = ffi::table::question(&lent.bytes, user, permission, t);
+    let given = ("question", "user", user, "permission", permission, "minute", t);
+    case.same(proved, expected, &lent.bytes, given);
+}
+
+fn compare_holders(case: &Case, tally: &mut Tally, lent: &Lent, t: u32) {
+    let expected = expected::table::holders(&lent.table, t);
+    tally.add(expected.refusal);
+    case.same(ffi::table::holders(&lent.bytes, t), expected, &lent.bytes, ("holders", "minute", t));
+}
+
+/// Reads the bytes, and asks a few questions at minutes where `table`'s answers may change.
+fn compare_all(case: &mut Case, tally: &mut Tally, lent: &Lent, table: &Table, questions: u32) {
+    compare_read(case, tally, lent);
+    for _ in 0..questions {
+        let user = generate::number(&mut case.random, table.users.into());
+        let permission = generate::number(&mut case.random, table.permissions.into());
+        let t = generate::table_minute(&mut case.random, table);
+        compare_question(case, tally, lent, user, permission, t);
+    }
+    let t = generate::table_minute(&mut case.random, table);
+    compare_holders(case, tally, lent, t);
+}
+
+/// The small rota's table, as its file holds it.
+fn small() -> Table {
+    let path = concat!(env!("CARGO_MANIFEST_DIR"), "/../../data/small.table");
+    Table::parse(&std::fs::read(path).expect(path)).expect("well formed")
+}
+
+#[test]
+fn worked_minutes() {
+    let bytes = small().encode();
+    let ask = |user, t| {
+        let answered = ffi::table::question(&bytes, user, 0, t);
+        assert_eq!(answered.refusal, 0);
+        (answered.yes == 1).then_some(answered.role)
+    };
+    assert_eq!(ask(0, 3), Some(0));
+    assert_eq!(ask(0, 4), None);
+    assert_eq!([ask(0, 12), ask(1, 12)], [Some(0); 2]);
+    assert_eq!(ask(1, 36), Some(0));
+    assert_eq!([ask(0, 37), ask(1, 37), ask(0, 40), ask(1, 40)], [None; 4]);
+    assert_eq!([3, 4, 12, 36].map(|t| ffi::table::holders(&bytes, t).users), [1, 0, 3, 2]);
+    let refusal = |user, permission, t| ffi::table::question(&bytes, user, permission, t).refusal;
+    assert_eq!(refusal(1, 0, END - 1), 0);
+    assert_eq!(refusal(256, 256, END), 33);
+    assert_eq!(refusal(256, 256, 0), 34);
+    assert_eq!(refusal(2, 0, 0), 34);
+    assert_eq!(refusal(0, 256, 0), 35);
+    assert_eq!(refusal(0, 1, 0), 35);
+    assert_eq!(ffi::table::holders(&bytes, END).refusal, 33);
+}
+
+/// Each rule kept at its limit and then broken, with the number that is due.
+#[test]
+fn limits() {
+    let case = Case::new("limits", 0);
+    let mut tally = Tally::new("limits");
+    let mut read_bytes = |bytes: Vec<u8>| {
+        let lent = Lent::new(bytes);
+        compare_read(&case, &mut tally, &lent);
+        ffi::table::read(&lent.bytes).refusal
+    };
+    let whole = small().encode();
+    assert_eq!(read_bytes(whole[..15].to_vec()), 21);
+    assert_eq!(read_bytes(whole[..16].to_vec()), 25);
+    assert_eq!(read_bytes([&whole[..], &[0]].concat()), 25);
+    let mut read = |change: &dyn Fn(&mut Table)| {
+        let mut table = small();
+        change(&mut table);
+        read_bytes(table.encode())
+    };
+    assert_eq!(read(&|_| ()), 0);
+    for (cycle, refusal) in [(0, 23), (9, 0), (6, 27), (40_320, 0), (40_321, 23), (65_535, 23)] {
+        assert_eq!(read(&|t| t.cycle = cycle), refusal, "cycle {cycle}");
+    }
+    for (count, refusal) in [(63, 0), (64, 0), (65, 24), (255, 24), (0, 26)] {
+        assert_eq!(read(&|t| t.users = count), refusal);
+        assert_eq!(read(&|t| t.permissions = count), refusal);
+    }
+    assert_eq!(read(&|t| t.users = 1), 26);
+    for (roles, refusal) in [(0, 26), (32, 0), (33, 24), (256, 24), (257, 24), (65_535, 24)] {
+        assert_eq!(read(&|t| t.roles = roles), refusal, "roles {roles}");
+    }
+    // Entries.
+    assert_eq!(read(&|t| t.derived[1] = t.derived[0]), 0, "entries may repeat");
+    assert_eq!(read(&|t| (t.roles, t.derived[2].source) = (2, 1)), 28);
+    assert_eq!(read(&|t| (t.roles, t.derived[1].source) = (2, 1)), 26);
+    assert_eq!(read(&|t| t.derived[2].source = 1), 26);
+    assert_eq!(read(&|t| t.derived[2].users = 0), 26);
+    assert_eq!(read(&|t| t.derived[2].permissions = 0), 26);
+    assert_eq!(read(&|t| t.derived[2].users = 4), 26);
+    assert_eq!(read(&|t| t.derived[2].permissions = 2), 26);
+    assert_eq!(read(&|t| (t.users, t.derived[2].users) = (63, 1 << 63)), 26);
+    assert_eq!(read(&|t| (t.users, t.derived[2].users) = (64, 1 << 63)), 0);
+    assert_eq!(read(&|t| (t.permissions, t.derived[2].permissions) = (64, u64::MAX)), 0);
+    assert_eq!(read(&|t| t.rows.clear()), 0, "entries may have no row");
+    assert_eq!(read(&|t| t.derived.clear()), 27, "rows may not");
+    assert_eq!(read(&|t| (t.derived.clear(), t.rows.clear()).0), 0);
+    assert_eq!(read(&|t| t.rows[0].end = 0), 27, "no era, in the first row");
+    // The first row and the last.
+    for i in [0, 11] {
+        assert_eq!(read(&|t| t.rows[i].derived = 3), 27);
+        assert_eq!(read(&|t| t.rows[i].derived = u32::MAX), 27);
+        assert_eq!(read(&|t| t.rows[i].begin = t.rows[i].end), 27);
+        assert_eq!(read(&|t| t.rows[i].end = END + 1), 27);
+        assert_eq!(read(&|t| t.rows[i].length = 0), 27);
+        assert_eq!(read(&|t| (t.rows[i].offset, t.rows[i].length) = (9, 2)), 27);
+        assert_eq!(read(&|t| (t.rows[i].offset, t.rows[i].length) = (65_535, 1)), 27);
+    }
+    assert_eq!(read(&|t| (t.rows[11].offset, t.rows[11].length) = (9, 1)), 0);
+    // The order of rows.
+    assert_eq!(read(&|t| t.rows[1].offset = 1), 28);
+    assert_eq!(read(&|t| t.rows[1] = t.rows[0]), 28);
+    assert_eq!(read(&|t| (t.rows[4].begin, t.rows[4].end) = (9, 10)), 28);
+    assert_eq!(read(&|t| t.rows.swap(3, 4)), 28);
+    assert_eq!(read(&|t| t.rows[11].end = END), 28, "one of two overlapping eras");
+    assert_eq!(read(&|t| t.rows[9..].iter_mut().for_each(|row| row.end = END)), 0);
+    // A refusal of one row comes before any of the next.
+    assert_eq!(read(&|t| (t.rows[1].offset, t.rows[2].length) = (1, 0)), 28);
+    assert_eq!(read(&|t| (t.rows[1].length, t.rows[2].offset) = (0, 0)), 27);
+    // A greater source may start again at any minute; a lower one may not follow.
+    let two_sources = |t: &mut Table, order: [u32; 2]| {
+        let entry = |source| DerivedRole { source, users: 1, permissions: 1 };
+        let row = |derived| Row { derived, begin: 0, end: 9, offset: 0, length: 3 };
+        t.roles = 32;
+        t.derived = vec![entry(0), entry(31)];
+        t.rows = order.map(row).to_vec();
+    };
+    assert_eq!(read(&|t| two_sources(t, [0, 1])), 0);
+    assert_eq!(read(&|t| two_sources(t, [1, 0])), 28);
+    let mut format = |format: u16| {
+        let mut bytes = whole.clone();
+        bytes[..2].copy_from_slice(&format.to_le_bytes());
+        read_bytes(bytes)
+    };
+    assert_eq!([0, 1, 2, 3, 258, 512].map(&mut format), [22, 22, 0, 22, 22, 22]);
+    tally.reached((0..=0).chain(21..=28));
+}
+
+/// Counts near 2^32 in short files, most with a size that is right in 32 bits.
+#[test]
+fn huge_counts_in_short_files() {
+    let mut tally = Tally::new("huge_counts_in_short_files");
+    cases("huge_counts_in_short_files", 20_000, |case| {
+        let table = generate::small_table(&mut case.random);
+        let mut bytes = table.encode();
+        if case.random.one_in(4) {
+            bytes.truncate(case.random.between(16, 60) as usize);
+        }
+        let (derived, rows) = (table.derived.len() as u64, table.rows.len() as u64);
+        let (derived, rows) = generate::huge_counts(&mut case.random, derived, rows);
+        bytes[8..12].copy_from_slice(&(derived as u32).to_le_bytes());
+        bytes[12..16].copy_from_slice(&(rows as u32).to_le_bytes());
+        let lent = Lent::new(bytes);
+        assert_eq!(lent.table, Err(25), "seed {} case {}", case.seed, case.number);
+        compare_all(case, &mut tally, &lent, &table, 1);
+    });
+    tally.reached([25]);
+}
+
+/// Tables that no rewriting makes: repeated entries, entries without rows, other numberings.
+#[test]
+fn tables_made_by_hand() {
+    let mut tally = Tally::new("tables_made_by_hand");
+    let (mut yes, mut no) = (0u64, 0u64);
+    cases("tables_made_by_hand", 20_000, |case| {
+        let table = match case.random.below(3) {
+            0 => generate::table(&mut case.random),
+            _ => generate::small_table(&mut case.random),
+        };
+        let lent = Lent::new(table.encode());
+        assert!(lent.table.is_ok(), "the builder makes only accepted tables");
+        compare_all(case, &mut tally, &lent, &table, 6);
+        // A question that is likely to be a yes: the numbers of a row's own entry.
+        if !table.rows.is_empty() {
+            let row = case.random.pick(&table.rows);
+            let entry = &table.derived[row.derived as usize];
+            let (user, permission) = (entry.users.trailing_zeros(), entry.permissions.ilog2());
+            for _ in 0..3 {
+                let t = generate::table_minute(&mut case.random, &table);
+                compare_question(case, &mut tally, &lent, user, permission, t);
+                match ffi::table::question(&lent.bytes, user, permission, t).yes {
+                    0 => no += 1,
+                    _ => yes += 1,
+                }
+            }
+        }
+    });
+    tally.reached([0, 33, 34, 35]);
+    assert!(yes > 0 && no > 0, "yes {yes} no {no}");
+}
+
+/// The tables of random rotas.
+#[test]
+fn rewritten_tables() {
+    let mut tally = Tally::new("rewritten_tables");
+    cases("rewritten_tables", 5_000, |case| {
+        let rota = match case.random.below(10) {
+            0 => generate::rota(&mut case.random),
+            _ => generate::small_rota(&mut case.random),
+        };
+        let table = rewriting::table(&rota);
+        let lent = Lent::new(table.encode());
+        assert!(lent.table.is_ok());
+        compare_all(case, &mut tally, &lent, &table, 5);
+        for _ in 0..5 {
+            let t = generate::rota_minute(&mut case.random, &rota);
+            let user = generate::number(&mut case.random, rota.users.into());
+            let permission = generate::number(&mut case.random, rota.permissions.into());
+            compare_question(case, &mut tally, &lent, user, permission, t);
+        }
+    });
+    tally.reached([0, 33, 34, 35]);
+}
+
+/// The tables of rotas at the limits; these have many thousand rows.
+#[test]
+fn largest_rewritten_tables() {
+    let mut tally = Tally::new("largest_rewritten_tables");
+    for number in 0..3 {
+        let mut case = Case::new("largest_rewritten_tables", number);
+        let rota = generate::rota_of(&mut case.random, &generate::LIMITS);
+        let table = rewriting::table(&rota);
+        let lent = Lent::new(table.encode());
+        compare_read(&case, &mut tally, &lent);
+        for _ in 0..10 {
+            let t = generate::rota_minute(&mut case.random, &rota);
+            let (user, permission) = (case.random.below(64), case.random.below(64));
+            // Not through `same`: these bytes are too many to print.
+            let expected = expected::table::question(&lent.table, user, permission, t);
+            let proved = ffi::table::question(&lent.bytes, user, permission, t);
+            tally.add(expected.refusal);
+            assert_eq!(proved, expected, "seed {} case {number} minute {t}", case.seed);
+            let expected = expected::table::holders(&lent.table, t);
+            assert_eq!(ffi::table::holders(&lent.bytes, t), expected, "case {number} minute {t}");
+        }
+    }
+    tally.reached([0]);
+}
+
+/// Every user, permission and minute of a stretch, and the set of holders.
+#[test]
+fn small_tables_minute_by_minute() {
+    let mut tally = Tally::new("small_tables_minute_by_minute");
+    cases("small_tables_minute_by_minute", 150, |case| {
+        let table = generate::small_table(&mut case.random);
+        let lent = Lent::new(table.encode());
+        for t in (0..50).chain(END - 10..END + 1) {
+            compare_holders(case, &mut tally, &lent, t);
+            for user in 0..=u32::from(table.users) {
+                for permission in 0..=u32::from(table.permissions) {
+                    compare_question(case, &mut tally, &lent, user, permission, t);
+                }
+            }
+        }
+    });
+    tally.reached([0, 33, 34, 35]);
+}
+
+/// Numbers at and over every limit, with minutes at and over theirs.
+#[test]
+fn questions_at_and_over_their_limits() {
+    let mut tally = Tally::new("questions_at_and_over_their_limits");
+    cases("questions_at_and_over_their_limits", 300, |case| {
+        let table = match case.random.below(3) {
+            0 => generate::small_table(&mut case.random),
+            _ => generate::table(&mut case.random),
+        };
+        let lent = Lent::new(table.encode());
+        let numbers = |limit: u8| {
+            let limit = u32::from(limit);
+            let below = limit.saturating_sub(1);
+            [0, below, limit, limit + 1, 63, 64, 65, 255, 256, 256 + below, 1 << 16, u32::MAX]
+        };
+        let t = generate::table_minute(&mut case.random, &table);
+        for user in numbers(table.users) {
+            for permission in numbers(table.permissions) {
+                compare_question(case, &mut tally, &lent, user, permission, t);
+            }
+            for t in [0, END - 1, END, END + 1, 1 << 31, u32::MAX] {
+                let permission = generate::number(&mut case.random, table.permissions.into());
+                compare_question(case, &mut tally, &lent, user, permission, t);
+                compare_holders(case, &mut tally, &lent, t);
+            }
+        }
+    });
+    tally.reached([0, 33, 34, 35]);
+}
+
+#[test]
+fn every_length() {
+    let mut tally = Tally::new("every_length");
+    cases("every_length", 150, |case| {
+        let table = generate::small_table(&mut case.random);
+        let mut bytes = table.encode();
+        let whole = bytes.len();
+        let extra = case.random.bytes(20);
+        bytes.extend(extra);
+        for len in 0..=bytes.len() {
+            let lent = Lent::new(bytes[..len].to_vec());
+            assert_eq!(lent.table.is_ok(), len == whole);
+            compare_all(case, &mut tally, &lent, &table, 1);
+        }
+    });
+    tally.reached([0, 21, 25]);
+}
+
+#[test]
+fn every_byte_changed() {
+    let mut tally = Tally::new("every_byte_changed");
+    cases("every_byte_changed", 50, |case| {
+        // The small rota's table comes first.
+        let table =
+            if case.number == 0 { small() } else { generate::small_table(&mut case.random) };
+        let whole = table.encode();
+        for i in 0..whole.len() {
+            for value in generate::changes(whole[i]) {
+                let mut bytes = whole.clone();
+                bytes[i] = value;
+                compare_all(case, &mut tally, &Lent::new(bytes), &table, 1);
+            }
+        }
+    });
+    tally.reached((0..=0).chain(22..=28));
+}
+
+/// Several faults at once, so that the order of refusals shows.
+#[test]
+fn several_faults() {
+    let mut tally = Tally::new("several_faults");
+    cases("several_faults", 50_000, |case| {
+        let table = match case.random.below(8) {
+            0 => generate::table(&mut case.random),
+            1 => rewriting::table(&generate::small_rota(&mut case.random)),
+            _ => generate::small_table(&mut case.random),
+        };
+        let bytes = generate::damaged_table(&mut case.random, &table);
+        compare_all(case, &mut tally, &Lent::new(bytes), &table, 1);
+    });
+    tally.reached((0..=0).chain(21..=28).chain([33, 34, 35]));
+}

@@ -1,0 +1,240 @@
+//! Slow and obvious cross checks on random inputs: one part of the implementation against another.
+
+// The builders of random inputs are those of the comparison tests.
+#[path = "../../comparison/src/generate/mod.rs"]
+#[allow(dead_code, unused_imports)]
+mod generate;
+#[path = "../../comparison/src/random.rs"]
+#[allow(dead_code, unused_imports)]
+mod random;
+
+use std::collections::{BTreeMap, BTreeSet, HashSet};
+
+use random::Random;
+use reference::END;
+use reference::policy::Policy;
+use reference::rewriting;
+use reference::rota::Rota;
+use reference::service::{Call, Lent, Reply, State, serve, step};
+use reference::table::Table;
+
+/// The users that some answer grants something, asked one by one.
+fn holders_by_asking(policy: &dyn Policy, t: u32) -> u64 {
+    let mut holders = 0;
+    for user in 0..policy.users() {
+        if (0..policy.permissions()).any(|p| policy.answer(user, p, t).is_some()) {
+            holders |= 1 << user;
+        }
+    }
+    holders
+}
+
+/// Every question at `t`, with two neighbours that do not exist.
+fn same_answers(left: &dyn Policy, right: &dyn Policy, t: u32) {
+    assert_eq!((left.users(), left.permissions()), (right.users(), right.permissions()));
+    for user in 0..left.users() + 2 {
+        for permission in 0..left.permissions() + 2 {
+            assert_eq!(left.answer(user, permission, t), right.answer(user, permission, t));
+        }
+    }
+    assert_eq!(left.holders(t), right.holders(t));
+    assert_eq!(left.holders(t), holders_by_asking(left, t));
+    assert_eq!(right.holders(t), holders_by_asking(right, t));
+}
+
+#[test]
+fn generated_rotas_and_tables_are_well_formed() {
+    let mut random = Random::new(1);
+    for case in 0..20_000 {
+        let rota = match case % 3 {
+            0 => generate::small_rota(&mut random),
+            1 => generate::rota(&mut random),
+            _ => generate::rota_of(&mut random, &generate::edge_sizes(case % generate::EDGE_SIZES)),
+        };
+        assert_eq!(Rota::parse(&rota.encode()), Ok(rota), "case {case}");
+        let table = match case % 2 {
+            0 => generate::small_table(&mut random),
+            _ => generate::table(&mut random),
+        };
+        assert_eq!(Table::parse(&table.encode()), Ok(table), "case {case}");
+    }
+    let full = generate::rota_of(&mut random, &generate::LIMITS);
+    assert_eq!(full.hours.len(), 32);
+    assert_eq!(full.hours.iter().map(|hours| hours.pairs.len()).sum::<usize>(), 256);
+    assert_eq!((full.user_rows.len(), full.permission_rows.len()), (512, 512));
+}
+
+#[test]
+fn a_table_answers_as_its_rota_minute_by_minute() {
+    let mut random = Random::new(2);
+    for _ in 0..2_000 {
+        let rota = generate::small_rota(&mut random);
+        let table = rewriting::table(&rota);
+        assert_eq!(Table::parse(&table.encode()), Ok(table.clone()));
+        for t in (0..80).chain(END - 60..END) {
+            same_answers(&rota, &table, t);
+        }
+    }
+}
+
+#[test]
+fn a_table_answers_as_its_rota_at_edges() {
+    let mut random = Random::new(3);
+    for case in 0..3_000 {
+        let rota = if case % 100 == 0 {
+            generate::rota_of(&mut random, &generate::edge_sizes(case / 100))
+        } else {
+            generate::rota(&mut random)
+        };
+        let table = rewriting::table(&rota);
+        assert_eq!(Table::parse(&table.encode()), Ok(table.clone()));
+        for _ in 0..10 {
+            let t = generate::rota_minute(&mut random, &rota);
+            if t < END {
+                assert_eq!(rota.holders(t), table.holders(t));
+                for _ in 0..4 {
+                    let user = generate::number(&mut random, rota.users.into());
+                    let permission = generate::number(&mut random, rota.permissions.into());
+                    assert_eq!(rota.answer(user, permission, t), table.answer(user, permission, t));
+                }
+            }
+        }
+    }
+}
+
+/// The rewriting from its definition alone: every minute of a field is looked at.
+fn rows_by_every_minute(rota: &Rota) -> Vec<(u8, u64, u64, u32, u32, u32, u32)> {
+    let cycle = u32::from(rota.cycle);
+    let mut rows = Vec::new();
+    for role in 0..rota.roles.len() as u8 {
+        for (begin, end) in rewriting::eras(rota) {
+            for (offset, cell_end) in rewriting::cells(rota) {
+                // A long era repeats itself: two turns of the cycle show all that it has.
+                let seen = end.min(begin + 2 * cycle);
+                let sets: BTreeSet<(bool, u64, u64)> = (begin..seen)
+                    .filter(|t| (offset..cell_end).contains(&(t % cycle)))
+                    .map(|t| {
+                        let users = rota.users_of_role(role, t);
+                        (rota.role_is_enabled(role, t), users, rota.permissions_of_role(role, t))
+                    })
+                    .collect();
+                assert!(sets.len() <= 1, "all minutes of a field agree");
+                for (enabled, users, permissions) in sets {
+                    if enabled && users != 0 && permissions != 0 {
+                        let length = cell_end - offset;
+                        rows.push((role, users, permissions, begin, end, offset, length));
+                    }
+                }
+            }
+        }
+    }
+    rows
+}
+
+#[test]
+fn rewriting_keeps_the_fields_of_its_definition() {
+    let mut random = Random::new(4);
+    for _ in 0..3_000 {
+        let rota = generate::small_rota(&mut random);
+        let table = rewriting::table(&rota);
+        let mut numbered = 0;
+        let rows: Vec<_> = table
+            .rows
+            .iter()
+            .map(|row| {
+                // Numbers go by first row, and the same role with the same sets has one number.
+                assert!(row.derived <= numbered);
+                numbered = numbered.max(row.derived + 1);
+                let entry = table.derived[row.derived as usize];
+                let (offset, length) = (u32::from(row.offset), u32::from(row.length));
+                let sets = (entry.source, entry.users, entry.permissions);
+                (sets.0, sets.1, sets.2, row.begin, row.end, offset, length)
+            })
+            .collect();
+        assert_eq!(numbered as usize, table.derived.len());
+        let different: HashSet<_> = table.derived.iter().collect();
+        assert_eq!(different.len(), table.derived.len());
+        assert_eq!(rows, rows_by_every_minute(&rota));
+    }
+}
+
+fn random_call(random: &mut Random, rota: &Rota, now: u32) -> Call {
+    let user = generate::number(random, rota.users.into());
+    match random.below(8) {
+        0 => Call::Advance(generate::rota_minute(random, rota)),
+        1 => Call::Advance(now.saturating_add(random.below(4))),
+        2..=4 => Call::Open(user),
+        5 => Call::Close(user),
+        _ => Call::Ask(user, generate::number(random, rota.permissions.into())),
+    }
+}
+
+#[test]
+fn both_services_agree_with_the_machine() {
+    let mut random = Random::new(5);
+    let mut reached: BTreeMap<String, u32> = BTreeMap::new();
+    for case in 0..2_000 {
+        let rota = if case % 4 == 0 {
+            generate::rota(&mut random)
+        } else {
+            generate::small_rota(&mut random)
+        };
+        let rota_bytes = rota.encode();
+        let table_bytes = rewriting::table(&rota).encode();
+        let (mut machine, mut on_rota, mut on_table) =
+            (State::default(), State::default(), State::default());
+        for _ in 0..30 {
+            let call = random_call(&mut random, &rota, machine.now);
+            let before = machine;
+            let expected = step(&rota, &mut machine, call);
+            let kind = match expected {
+                Ok(Reply::Closed(count)) => format!("closed {}", count > 0),
+                Ok(Reply::Answer(answer)) => format!("answer {}", answer.is_some()),
+                other => format!("{other:?}"),
+            };
+            *reached.entry(kind).or_default() += 1;
+            assert_eq!(serve(Lent::Rota(&rota_bytes), &mut on_rota, call), expected);
+            assert_eq!(serve(Lent::Table(&table_bytes), &mut on_table, call), expected);
+            assert_eq!((on_rota, on_table), (machine, machine));
+            if expected.is_err() {
+                assert_eq!(machine, before);
+            }
+        }
+    }
+    // 33 to 35, 41 to 44, two kinds of count, done, yes and no; 40 needs an odd state.
+    assert_eq!(reached.len(), 12, "{reached:?}");
+    assert!(reached.values().all(|&count| count > 20), "{reached:?}");
+}
+
+#[test]
+fn tables_that_no_rewriting_makes_answer_by_their_rows() {
+    let mut random = Random::new(6);
+    for _ in 0..2_000 {
+        let table = generate::small_table(&mut random);
+        for _ in 0..20 {
+            let t = generate::table_minute(&mut random, &table);
+            if t < END {
+                assert_eq!(table.holders(t), holders_by_asking(&table, t));
+            }
+        }
+    }
+}
+
+#[test]
+fn damaged_bytes_reach_every_refusal() {
+    let mut random = Random::new(7);
+    let mut reached = [0u32; 64];
+    for _ in 0..60_000 {
+        let rota = generate::small_rota(&mut random);
+        if let Err(number) = Rota::parse(&generate::damaged_rota(&mut random, &rota)) {
+            reached[number as usize] += 1;
+        }
+        let table = generate::small_table(&mut random);
+        if let Err(number) = Table::parse(&generate::damaged_table(&mut random, &table)) {
+            reached[number as usize] += 1;
+        }
+    }
+    for number in (1..=12).chain(21..=28) {
+        assert!(reached[number] > 50, "refusal {number}: {}", reached[number]);
+    }
+}

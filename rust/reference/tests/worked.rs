@@ -1,0 +1,291 @@
+//! The worked examples: the small rota, its table and listing, and the limits.
+
+use reference::END;
+use reference::hours::{Hours, HoursRef, Pair};
+use reference::listing;
+use reference::policy::{Policy, question};
+use reference::rewriting::{self, rewrite};
+use reference::rota::{Rota, Row};
+use reference::service::{Call, Lent, Reply, State, serve};
+use reference::table::Table;
+
+fn data(name: &str) -> Vec<u8> {
+    let path = concat!(env!("CARGO_MANIFEST_DIR"), "/../../data/").to_string() + name;
+    std::fs::read(&path).unwrap_or_else(|error| panic!("{path}: {error}"))
+}
+
+fn hours(begin: u32, end: u32, pairs: &[(u16, u16)]) -> Hours {
+    let pairs = pairs.iter().map(|&(offset, length)| Pair { offset, length }).collect();
+    Hours { begin, end, pairs }
+}
+
+fn row(number: u8, role: u8, hours: HoursRef) -> Row {
+    Row { number, role, hours }
+}
+
+/// S, as the text describes it.
+fn small() -> Rota {
+    Rota {
+        cycle: 10,
+        hours: vec![hours(0, 20, &[(0, 4), (6, 2)]), hours(10, 40, &[(2, 5)])],
+        users: 2,
+        permissions: 1,
+        roles: vec![HoursRef::Always],
+        user_rows: vec![row(0, 0, HoursRef::Numbered(0)), row(1, 0, HoursRef::Numbered(1))],
+        permission_rows: vec![row(0, 0, HoursRef::Always)],
+    }
+}
+
+#[test]
+fn small_rota_reads_and_encodes() {
+    assert_eq!(data("small.rota").len(), 54);
+    assert_eq!(small().encode(), data("small.rota"));
+    assert_eq!(Rota::parse(&data("small.rota")), Ok(small()));
+}
+
+#[test]
+fn small_rota_rewrites_to_its_table() {
+    let table = rewriting::table(&small());
+    assert_eq!(table.encode(), data("small.table"));
+    assert_eq!(Table::parse(&data("small.table")), Ok(table));
+}
+
+#[test]
+fn small_rota_needs_259_bytes() {
+    let rota = data("small.rota");
+    let mut area = vec![0xa5; 300];
+    let written = rewrite(&rota, &mut area).unwrap();
+    assert_eq!((written.derived, written.rows, written.length), (3, 12, 259));
+    assert_eq!(area[..259], data("small.table"));
+    assert!(area[259..].iter().all(|&byte| byte == 0xa5), "bytes past the length stay");
+
+    assert!(rewrite(&rota, &mut [0; 259]).is_ok());
+    let mut area = vec![0xa5; 258];
+    assert_eq!(rewrite(&rota, &mut area), Err(20));
+    assert!(area.iter().all(|&byte| byte == 0xa5), "a refusal writes nothing");
+    assert_eq!(rewrite(&rota, &mut []), Err(20));
+    assert_eq!(rewrite(&rota[..53], &mut []), Err(9), "the rota's refusals come first");
+}
+
+#[test]
+fn small_listing() {
+    let printed = listing::program(&data("small.rota"));
+    assert_eq!(printed.as_bytes(), data("small.listing"));
+}
+
+#[test]
+fn listing_refusals() {
+    assert_eq!(listing::program(&[]), "refused 1\n");
+    assert_eq!(listing::program(&[0; 8_192]), "refused 2\n");
+    assert_eq!(listing::program(&[0; 8_193]), "refused 9\n");
+    // 16 + 17 + 16 × 4,096 bytes are over the area: 64 eras of 64 cells and more.
+    let mut large = small();
+    large.cycle = 2_000;
+    large.hours = (0..32).map(|i| hours(4_000 * (2 * i + 1), 4_000 * (2 * i + 2), &[])).collect();
+    for (i, record) in large.hours.iter_mut().enumerate() {
+        record.pairs = vec![Pair { offset: 60 * i as u16 + 1, length: 30 }];
+    }
+    large.user_rows = vec![row(0, 0, HoursRef::Always)];
+    large.permission_rows = vec![row(0, 0, HoursRef::Always)];
+    assert_eq!(rewriting::table(&large).rows.len(), 65 * 65);
+    assert_eq!(listing::program(&large.encode()), "refused 20\n");
+}
+
+#[test]
+fn worked_minutes() {
+    let rota = small();
+    let table = rewriting::table(&rota);
+    for policy in [&rota as &dyn Policy, &table] {
+        let ask = |user, t| question(policy, user, 0, t).unwrap();
+        assert_eq!(ask(0, 3), Some(0));
+        assert_eq!(ask(0, 4), None);
+        assert_eq!((ask(0, 12), ask(1, 12)), (Some(0), Some(0)));
+        assert_eq!(ask(1, 36), Some(0));
+        for t in [37, 40] {
+            assert_eq!((ask(0, t), ask(1, t)), (None, None));
+        }
+        assert_eq!(question(policy, 0, 0, END - 1), Ok(None));
+        assert_eq!(question(policy, 9, 9, END), Err(33));
+        assert_eq!(question(policy, 2, 9, 0), Err(34));
+        assert_eq!(question(policy, 256, 0, 0), Err(34));
+        assert_eq!(question(policy, 1, 1, 0), Err(35));
+        assert_eq!(question(policy, 1, 256, 0), Err(35));
+    }
+}
+
+#[test]
+fn worked_calls() {
+    let (rota, table) = (data("small.rota"), data("small.table"));
+    for lent in [Lent::Rota(&rota), Lent::Table(&table)] {
+        let mut state = State::default();
+        let mut call = |call| serve(lent, &mut state, call);
+        assert_eq!(call(Call::Open(1)), Err(43));
+        assert_eq!(call(Call::Open(0)), Ok(Reply::Done));
+        assert_eq!(call(Call::Open(0)), Err(42));
+        assert_eq!(call(Call::Ask(0, 0)), Ok(Reply::Answer(Some(0))));
+        assert_eq!(call(Call::Ask(1, 0)), Err(44));
+        assert_eq!(call(Call::Ask(1, 1)), Err(35));
+        assert_eq!(call(Call::Ask(2, 1)), Err(34));
+        assert_eq!(call(Call::Close(1)), Err(44));
+        assert_eq!(call(Call::Close(256)), Err(34));
+        assert_eq!(call(Call::Advance(4)), Ok(Reply::Closed(1)));
+        assert_eq!(call(Call::Advance(3)), Err(41));
+        assert_eq!(call(Call::Advance(4)), Ok(Reply::Closed(0)));
+        assert_eq!(call(Call::Advance(END)), Err(33));
+        assert_eq!(call(Call::Advance(END - 1)), Ok(Reply::Closed(0)));
+        assert_eq!(state, State { now: END - 1, open: 0 });
+    }
+}
+
+#[test]
+fn odd_states() {
+    let rota = small();
+    let bytes = rota.encode();
+    let lent = Lent::Rota(&bytes);
+    let refused = |state: State, call| {
+        let mut after = state;
+        let refusal = serve(lent, &mut after, call).unwrap_err();
+        assert_eq!(after, state, "a refusal leaves the state");
+        refusal
+    };
+    assert_eq!(refused(State { now: END, open: 0 }, Call::Advance(0)), 40);
+    assert_eq!(refused(State { now: 0, open: 4 }, Call::Open(256)), 40);
+    assert_eq!(refused(State { now: 9, open: 0 }, Call::Advance(END)), 33);
+    assert_eq!(serve(Lent::Rota(&[]), &mut State { now: END, open: 0 }, Call::Close(0)), Err(1));
+    assert_eq!(serve(Lent::Table(&[]), &mut State { now: END, open: 0 }, Call::Close(0)), Err(21));
+    assert_eq!(serve(Lent::Table(&bytes), &mut State::default(), Call::Close(0)), Err(22));
+    // Someone open who holds nothing: an advance to the same minute closes them.
+    let mut state = State { now: 4, open: 3 };
+    assert_eq!(serve(lent, &mut state, Call::Advance(4)), Ok(Reply::Closed(2)));
+    assert_eq!(state, State { now: 4, open: 0 });
+}
+
+#[test]
+fn a_field_without_a_minute_is_not_kept() {
+    let rota = Rota {
+        hours: vec![hours(3, 5, &[(0, 10)]), hours(0, END, &[(6, 2)])],
+        users: 1,
+        user_rows: vec![row(0, 0, HoursRef::Always)],
+        ..small()
+    };
+    let table = rewriting::table(&rota);
+    assert!(rewriting::eras(&rota).contains(&(3, 5)));
+    assert!(rewriting::cells(&rota).contains(&(6, 8)));
+    let kept = |begin, offset| {
+        table.rows.iter().any(|row| row.begin == begin && u32::from(row.offset) == offset)
+    };
+    assert!(kept(3, 0) && !kept(3, 6) && !kept(3, 8));
+    // The era before it ends at 3 and has no such minute either; the last era has all.
+    assert!(!kept(0, 6) && kept(5, 0) && kept(5, 6) && kept(5, 8));
+    assert_eq!(table.derived.len(), 1);
+}
+
+#[test]
+fn nothing_to_grant_gives_the_bare_header() {
+    for empty in [
+        Rota { users: 0, user_rows: vec![], ..small() },
+        Rota { permissions: 0, permission_rows: vec![], ..small() },
+        Rota { roles: vec![], user_rows: vec![], permission_rows: vec![], ..small() },
+        Rota { user_rows: vec![], ..small() },
+    ] {
+        let table = rewriting::table(&empty);
+        assert_eq!((table.derived.len(), table.rows.len()), (0, 0));
+        assert_eq!(table.encode().len(), 16);
+        assert_eq!(Table::parse(&table.encode()), Ok(table));
+    }
+}
+
+#[test]
+fn rota_limits() {
+    let read = |rota: Rota| Rota::parse(&rota.encode()).map(|_| ());
+    let with_cycle = |cycle| Rota { cycle, ..small() };
+    assert_eq!(read(with_cycle(40_320)), Ok(()));
+    assert_eq!(read(with_cycle(0)), Err(3));
+    assert_eq!(read(with_cycle(40_321)), Err(3));
+    let with_hours = |record| Rota { hours: vec![record, small().hours[1].clone()], ..small() };
+    assert_eq!(read(with_hours(hours(0, END, &[(0, 10)]))), Ok(()));
+    assert_eq!(read(with_hours(hours(0, END + 1, &[(0, 10)]))), Err(6));
+    assert_eq!(read(with_hours(hours(0, END, &[(0, 11)]))), Err(8));
+    let mut bytes = small().encode();
+    bytes.push(0);
+    assert_eq!(Rota::parse(&bytes), Err(9));
+    assert_eq!(Rota::parse(&bytes[..53]), Err(9));
+    assert_eq!(Rota::parse(&bytes[..11]), Err(1));
+    let with_row = |row| Rota { user_rows: vec![row, row], ..small() };
+    assert_eq!(read(with_row(row(2, 0, HoursRef::Always))), Err(11));
+    assert_eq!(read(with_row(row(1, 1, HoursRef::Always))), Err(11));
+    assert_eq!(read(with_row(row(1, 0, HoursRef::Numbered(2)))), Err(11));
+    assert_eq!(read(with_row(row(1, 0, HoursRef::Numbered(1)))), Ok(()));
+    let with_permission = |row| Rota { permission_rows: vec![row], ..small() };
+    assert_eq!(read(with_permission(row(1, 0, HoursRef::Always))), Err(12));
+    assert_eq!(read(with_permission(row(0, 1, HoursRef::Always))), Err(12));
+    assert_eq!(read(with_permission(row(0, 0, HoursRef::Numbered(254)))), Err(12));
+    assert_eq!(read(Rota { roles: vec![HoursRef::Numbered(2)], ..small() }), Err(10));
+    assert_eq!(read(Rota { users: 65, ..small() }), Err(4));
+    assert_eq!(read(Rota { permissions: 65, ..small() }), Err(4));
+    assert_eq!(read(Rota { users: 64, permissions: 64, ..small() }), Ok(()));
+    assert_eq!(read(Rota { roles: vec![HoursRef::Always; 33], ..small() }), Err(4));
+    assert_eq!(read(Rota { roles: vec![HoursRef::Always; 32], ..small() }), Ok(()));
+    let rows = |count| vec![row(0, 0, HoursRef::Always); count];
+    assert_eq!(read(Rota { user_rows: rows(513), ..small() }), Err(4));
+    assert_eq!(read(Rota { user_rows: rows(512), permission_rows: rows(512), ..small() }), Ok(()));
+    assert_eq!(read(Rota { permission_rows: rows(513), ..small() }), Err(4));
+    let many = |count| Rota { hours: vec![hours(0, END, &[(0, 10)]); count], ..small() };
+    assert_eq!(read(many(32)), Ok(()));
+    assert_eq!(read(many(33)), Err(4));
+    // 256 pairs in all pass, 257 do not.
+    let pairs: Vec<(u16, u16)> = (0..255).map(|i| (2 * i, 1)).collect();
+    let mut full = Rota { cycle: 600, hours: vec![hours(0, 9, &pairs)], ..small() };
+    full.hours.push(hours(0, 9, &[(0, 1)]));
+    assert_eq!(read(full.clone()), Ok(()));
+    full.hours.push(hours(0, 9, &[(0, 1)]));
+    assert_eq!(read(full), Err(7));
+}
+
+#[test]
+fn table_limits() {
+    let table = rewriting::table(&small());
+    let read = |table: &Table| Table::parse(&table.encode()).map(|_| ());
+    let changed = |change: &dyn Fn(&mut Table)| {
+        let mut table = table.clone();
+        change(&mut table);
+        read(&table)
+    };
+    assert_eq!(read(&table), Ok(()));
+    assert_eq!(Table::parse(&table.encode()[..15]), Err(21));
+    assert_eq!(Table::parse(&table.encode()[..258]), Err(25));
+    assert_eq!(Table::parse(&[table.encode(), vec![0]].concat()), Err(25));
+    assert_eq!(changed(&|t| t.cycle = 0), Err(23));
+    assert_eq!(changed(&|t| t.cycle = 40_320), Ok(()));
+    assert_eq!(changed(&|t| t.cycle = 40_321), Err(23));
+    assert_eq!(changed(&|t| t.users = 64), Ok(()));
+    assert_eq!(changed(&|t| t.users = 65), Err(24));
+    assert_eq!(changed(&|t| t.permissions = 65), Err(24));
+    assert_eq!(changed(&|t| t.roles = 32), Ok(()));
+    assert_eq!(changed(&|t| t.roles = 33), Err(24));
+    assert_eq!(changed(&|t| t.roles = 256), Err(24));
+    assert_eq!(changed(&|t| t.users = 1), Err(26));
+    assert_eq!(changed(&|t| t.permissions = 0), Err(26));
+    assert_eq!(changed(&|t| t.roles = 0), Err(26));
+    assert_eq!(changed(&|t| t.derived[1].users = 0), Err(26));
+    assert_eq!(changed(&|t| t.derived[1].permissions = 0), Err(26));
+    assert_eq!(changed(&|t| t.derived[1] = t.derived[0]), Ok(()), "repeats are fine");
+    assert_eq!(changed(&|t| (t.roles, t.derived[1].source) = (2, 1)), Err(26));
+    assert_eq!(changed(&|t| t.rows[0].derived = 3), Err(27));
+    assert_eq!(changed(&|t| t.rows[0].begin = 10), Err(27));
+    assert_eq!(changed(&|t| t.rows[11].end = END), Err(28), "its era overlaps the one before");
+    assert_eq!(changed(&|t| t.rows[11].end = END + 1), Err(27));
+    assert_eq!(changed(&|t| t.rows[0].length = 0), Err(27));
+    assert_eq!(changed(&|t| (t.rows[11].offset, t.rows[11].length) = (9, 2)), Err(27));
+    assert_eq!(changed(&|t| (t.rows[11].offset, t.rows[11].length) = (9, 1)), Ok(()));
+    assert_eq!(changed(&|t| t.rows[1].offset = 1), Err(28));
+    assert_eq!(changed(&|t| t.rows.swap(0, 4)), Err(28));
+    assert_eq!(changed(&|t| t.rows[1].length = 3), Ok(()), "there is a gap after it");
+    // 28 of a row comes before 27 of the next.
+    assert_eq!(changed(&|t| (t.rows[1].offset, t.rows[2].length) = (1, 0)), Err(28));
+    assert_eq!(changed(&|t| (t.rows[1].length, t.rows[2].offset) = (0, 0)), Err(27));
+    // Counts whose size wraps in 32 bits.
+    let mut bytes = table.encode();
+    bytes[12..16].copy_from_slice(&(12u32 + (1 << 28)).to_le_bytes());
+    assert_eq!(Table::parse(&bytes), Err(25));
+}
