@@ -5,12 +5,12 @@ use mathlib.Core.Logic.{_⊎_, inl, inr, ⊎-elim}
 use Prim.Native.Nat.{ℕ, zero, suc, _+_, _/_, _%_, _^_, _<_, _≤_}
 use native.Mathlib.Nat.{le-of-suc-le-suc, not-suc-le-zero, mod-lt, zero-lt-suc, eq-or-lt-of-le}
 use native.Mathlib.Omega.{arith}
-use lib.Dec.{eqb}
+use lib.Dec.{eqb, ltb}
 use lib.Pow.{pow-pos}
 use lib.Count.{trailingZeros, under, trailing-le}
-use borrow.Author.Tests.{eq-eqb}
+use borrow.Author.Tests.{eq-eqb, ltb-true, ltb-false}
 use Rattle.bitset.specs.Sets.{has, Lowest}
-use Rattle.bitset.proofs.SetLaws.{has-zero, has-suc, has-none, ext}
+use Rattle.bitset.proofs.SetLaws.{has-zero, has-suc, has-none, has-past, ext}
 
 low-in : (k x : ℕ) → trailingZeros k x < k → has x (trailingZeros k x) ≡ true
 unfolding trailingZeros
@@ -40,4 +40,15 @@ lowest-is k x p h =
     none : trailingZeros k x ≡ k → trailingZeros k x < k
     none e =
         let z : x ≡ 0 = ext k x 0 h (pow-pos k) (λ i l. low-below k x i (omega arith) ∙ sym (has-none i)) in
+        absurd (omega arith)
+
+-- a member of a set of k bits is below k
+pub lowest-small : (k x r : ℕ) → x < 2 ^ k → Lowest x r → r < k
+lowest-small k x r h w = go (ltb r k) refl
+  where
+    go : (b : Bool) → ltb r k ≡ b → r < k
+    go true e = ltb-true r k e
+    go false e =
+        let no : false ≡ true = sym (has-past k x r h (ltb-false r k e)) ∙ w .member in
+        let z : _≡_ {A = ℕ} 0 1 = cc in
         absurd (omega arith)

@@ -7,7 +7,7 @@
 --     ones-count                          the language's count is the number of members
 --     setOf-none, setOf-turn, turn-in, turn-out   a loop that gathers a set
 -- Assumes nothing.
-use mathlib.Core.Path.{_≡_, refl, sym, ap, ap₂, _∙_}
+use mathlib.Core.Path.{_≡_, refl, sym, ap, ap₂, _∙_, subst}
 use mathlib.Core.Bool.{Bool, true, false, _&&_, _||_, not}
 use Prim.Native.Nat.{ℕ, zero, suc, _+_, _-_, _*_, _/_, _%_, _^_, _≤_, _<_}
 use native.Mathlib.Nat.{mod-lt, lt-of-le-of-lt, lt-of-lt-of-le, zero-lt-suc, not-suc-le-zero, one-mul, div-one, div-add-mod', div-eq-of-lt}
@@ -156,6 +156,9 @@ has-below n f j l = has-setOf n f j ∙ ap (λ (b : Bool). b && f j) (lt-ltb j n
 pub setOf-has : (n x : ℕ) (f : ℕ → Bool) → x < 2 ^ n → ((i : ℕ) → i < n → has x i ≡ f i) → x ≡ setOf n f
 setOf-has n x f h e = ext n x (setOf n f) h (setOf-lt n f) (λ i l. e i l ∙ sym (has-below n f i l))
 
+pub fits-64 : (n : ℕ) (f : ℕ → Bool) → n ≤ 64 → setOf n f < 2 ^ 64
+fits-64 n f l = lt-of-lt-of-le (setOf-lt n f) (pow-mono l)
+
 -- ---- members of each operation
 module _ (x y j : ℕ) (l : j < 64) where
   pub has-insert : has (insert x y) j ≡ (has x j || eqb j y)
@@ -189,6 +192,10 @@ module _ (x i : ℕ) (fx : x < 2 ^ 64) (h : i < 64) where
       rw (one-shl i h)
       (setOf-has 64 _ _ (or-lt 64 x (2 ^ i) fx (pow-lt h)) (λ j l. has-or x (2 ^ i) j ∙ ap (λ (b : Bool). has x j || b) (has-one i j)))
 
+  -- so a number below k stays within k bits
+  pub insert-lt : (k : ℕ) → i < k → x < 2 ^ k → insert x i < 2 ^ k
+  insert-lt k l p = subst (λ (y : ℕ). y < 2 ^ k) (ap (bitOr x) (sym (one-shl i h)) ∙ insert-is) (or-lt k x (2 ^ i) p (pow-lt l))
+
   pub remove-is : bitAnd x ((2 ^ 64 - 1) - 1 * 2 ^ i % 2 ^ 64) ≡ remove x i
   unfolding remove
   remove-is =
@@ -210,6 +217,17 @@ module _ (x y : ℕ) (fx : x < 2 ^ 64) (fy : y < 2 ^ 64) where
   difference-is =
       setOf-has 64 _ _ (lt-of-le-of-lt (and-le-l x ((2 ^ 64 - 1) - y)) fx)
       (λ j l. has-and x ((2 ^ 64 - 1) - y) j ∙ ap (λ (b : Bool). has x j && b) (has-not 64 y j fy l))
+
+-- two sets given by tests
+in-both : (l f g : Bool) → ((l && f) && (l && g)) ≡ (l && (f && g))
+in-both true f g = refl
+in-both false f g = refl
+
+pub intersection-setOf : (n : ℕ) (f g : ℕ → Bool) → n ≤ 64 → intersection (setOf n f) (setOf n g) ≡ setOf n (λ i. f i && g i)
+unfolding intersection
+intersection-setOf n f g l =
+    sym (setOf-has 64 _ _ (fits-64 n _ l)
+    (λ j m. has-setOf n _ j ∙ sym (ap₂ _&&_ (has-setOf n f j) (has-setOf n g j) ∙ in-both (ltb j n) (f j) (g j))))
 
 -- ---- counts
 count-same : (k : ℕ) (f g : ℕ → Bool) → ((i : ℕ) → i < k → f i ≡ g i) → countBelow k f ≡ countBelow k g
@@ -288,9 +306,6 @@ out-case : (l q v : Bool) → (q ≡ true → v ≡ false) → ((l || q) && v) �
 out-case true q v h = refl
 out-case false true v h = h refl
 out-case false false v h = refl
-
-fits-64 : (n : ℕ) (f : ℕ → Bool) → n ≤ 64 → setOf n f < 2 ^ 64
-fits-64 n f l = lt-of-lt-of-le (setOf-lt n f) (pow-mono l)
 
 module _ (i : ℕ) (f : ℕ → Bool) (l : i < 64) where
   more-has : (j : ℕ) → has (setOf (i + 1) f) j ≡ ((ltb j i || eqb j i) && f j)

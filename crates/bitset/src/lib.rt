@@ -70,7 +70,7 @@ pub fn count_lost(before: u64, after: u64) -> u32
 // The lowest member of a set that is not empty.
 pub fn lowest(set: u64) -> u32
     requires { ⌜ 0 < set ⌝ }
-    ensures { λ r. ⌜ Lowest set r ⌝ }
+    ensures { λ r. ⌜ Lowest set r × (r < 64) ⌝ }
 {
     u64::trailing_zeros(set)
 }

@@ -1,25 +1,28 @@
 -- Laws of bounded search, one for each way that a searching loop can go, and what a search that ended says.
 --     any-none, any-more, any-stop    the loop over `anyBelow`
---     any-out, any-in, any-same       a number that passes; one is enough; tests that agree below the bound
+--     any-turn, any-same, any-out     one turn, whatever the test says; tests that agree below the bound; a number that passes
 --     list-any                        some element of a list given by index
+--     lowest-is, lowest-none, lowest-some, lowest-out, lowest-no    the lowest number that passes, and where there is none
 -- Assumes nothing.
 use Prim.Native.Nat.{ℕ, zero, suc, _+_, _<_}
 use mathlib.Core.Path.{_≡_, refl, sym, ap, ap₂, _∙_}
 use mathlib.Core.Logic.{⊎-elim}
 use mathlib.Core.Bool.{Bool, true, false, _||_}
+use mathlib.Core.Option.{Option, none, some}
 use mathlib.Core.List.{List, [], _∷_, _++_}
 use native.Mathlib.Nat.{not-suc-le-zero, le-of-suc-le-suc, eq-or-lt-of-le, le-refl, lt-trans}
 use native.Mathlib.Numerals.{add-one}
-use lib.Dec.{T}
-use Rattle.ground.specs.Search.{any, anyBelow}
+use native.Mathlib.Omega.{arith}
+use Rattle.ground.specs.Choice.{pick}
+use Rattle.ground.specs.Search.{any, anyBelow, firstOf, lowestBelow}
 use Rattle.ground.specs.Sequence.{listOf}
-use Rattle.ground.proofs.BoolLaws.{eq→T}
+use Rattle.ground.proofs.BoolLaws.{pick-true, pick-false, eq-ext}
 
-or-true : (b : Bool) → (b || true) ≡ true
+pub or-true : (b : Bool) → (b || true) ≡ true
 or-true true = refl
 or-true false = refl
 
-or-false : (b : Bool) → (b || false) ≡ b
+pub or-false : (b : Bool) → (b || false) ≡ b
 or-false true = refl
 or-false false = refl
 
@@ -55,7 +58,7 @@ unfolding anyBelow
 any-same zero f g h = refl
 any-same (suc n) f g h = ap₂ _||_ (any-same n f g (λ i l. h i (lt-trans l (le-refl (suc n))))) (h n (le-refl (suc n)))
 
-any-append {ℓ} : {A : Type ℓ} (f : A → Bool) (l m : List A) → any f (l ++ m) ≡ (any f l || any f m)
+pub any-append {ℓ} : {A : Type ℓ} (f : A → Bool) (l m : List A) → any f (l ++ m) ≡ (any f l || any f m)
 unfolding any
 any-append f [] m = refl
 any-append f (x ∷ l) m = ap (λ (b : Bool). f x || b) (any-append f l m) ∙ sym (or-assoc (f x) (any f l) (any f m))
@@ -65,3 +68,65 @@ unfolding any anyBelow listOf
 list-any f zero g = refl
 list-any f (suc n) g =
     any-append f (listOf n g) (g n ∷ []) ∙ ap₂ _||_ (list-any f n g) (or-false (f (g n)))
+
+pub any-out : (n : ℕ) (f : ℕ → Bool) → anyBelow n f ≡ true → (i : ℕ) × (i < n) × (f i ≡ true)
+unfolding anyBelow
+any-out zero f h = let z : _≡_ {A = ℕ} 0 1 = cc in absurd (omega arith)
+any-out (suc n) f h = go (anyBelow n f) refl (any-out n f) h
+  where
+    go : (b : Bool) → anyBelow n f ≡ b → (anyBelow n f ≡ true → (i : ℕ) × (i < n) × (f i ≡ true)) → (b || f n) ≡ true → (i : ℕ) × (i < suc n) × (f i ≡ true)
+    go true e before k = let r = before e in (r .0, lt-trans (r .1) (le-refl (suc n)), r .2)
+    go false e before k = (n, le-refl (suc n), k)
+
+module _ (f : ℕ → Bool) where
+  pub lowest-none : (n : ℕ) → ((i : ℕ) → i < n → f i ≡ false) → lowestBelow n f ≡ none
+  unfolding lowestBelow firstOf
+  lowest-none zero h = refl
+  lowest-none (suc n) h =
+      ap₂ firstOf (lowest-none n (λ i l. h i (lt-trans l (le-refl (suc n))))) (pick-false (f n) (some n) none (h n (le-refl (suc n))))
+
+  pub lowest-is : (n k : ℕ) → k < n → f k ≡ true → ((i : ℕ) → i < k → f i ≡ false) → lowestBelow n f ≡ some k
+  unfolding lowestBelow firstOf
+  lowest-is zero k l e h = absurd (not-suc-le-zero l)
+  lowest-is (suc n) k l e h =
+      ⊎-elim
+      (λ (q : k ≡ n). rw (← q) (ap₂ firstOf (lowest-none k h) (pick-true (f k) (some k) none e)))
+      (λ (m : k < n). ap (λ (o : Option ℕ). firstOf o (pick (f n) (some n) none)) (lowest-is n k m e h))
+      (eq-or-lt-of-le (le-of-suc-le-suc l))
+
+  -- there is a lowest one exactly when one passes
+  pub lowest-some : (n : ℕ) → anyBelow n f ≡ true → (k : ℕ) × (k < n) × (lowestBelow n f ≡ some k) × (f k ≡ true)
+  unfolding anyBelow lowestBelow firstOf
+  lowest-some zero h = let z : _≡_ {A = ℕ} 0 1 = cc in absurd (omega arith)
+  lowest-some (suc n) h = go (anyBelow n f) refl (lowest-some n) h
+    where
+      none-before : anyBelow n f ≡ false → (i : ℕ) → i < n → f i ≡ false
+      none-before e i l = eq-ext (f i) false (λ h. sym e ∙ any-stop f n i l h) (λ h. let z : _≡_ {A = ℕ} 0 1 = cc in absurd (omega arith))
+
+      go : (b : Bool) → anyBelow n f ≡ b → (anyBelow n f ≡ true → (k : ℕ) × (k < n) × (lowestBelow n f ≡ some k) × (f k ≡ true)) → (b || f n) ≡ true
+          → (k : ℕ) × (k < suc n) × (firstOf (lowestBelow n f) (pick (f n) (some n) none) ≡ some k) × (f k ≡ true)
+      go true e before k =
+          let r = before e in
+          (r .0, lt-trans (r .1) (le-refl (suc n)), ap (λ (o : Option ℕ). firstOf o (pick (f n) (some n) none)) (r .2), r .3)
+      go false e before k = (n, le-refl (suc n), ap₂ firstOf (lowest-none n (none-before e)) (pick-true (f n) (some n) none k), k)
+
+  -- what the lowest one is, and that there is none
+  pub lowest-no : (n : ℕ) → lowestBelow n f ≡ none → (i : ℕ) → i < n → f i ≡ false
+  lowest-no n e i l = eq-ext (f i) false (λ h. absurd (clash (lowest-some n (any-stop f n i l h)))) (λ h. let z : _≡_ {A = ℕ} 0 1 = cc in absurd (omega arith))
+    where
+      clash : (k : ℕ) × (k < n) × (lowestBelow n f ≡ some k) × (f k ≡ true) → ⊥
+      clash r = let q = r .2 in let z : _≡_ {A = ℕ} 0 1 = cc in omega arith
+
+  pub lowest-out : (n k : ℕ) → lowestBelow n f ≡ some k → (k < n) × (f k ≡ true) × ((i : ℕ) → i < k → f i ≡ false)
+  unfolding lowestBelow firstOf
+  lowest-out zero k e = let z : _≡_ {A = ℕ} 0 1 = cc in absurd (omega arith)
+  lowest-out (suc n) k e = before (lowest-out n k) (lowestBelow n f) refl e
+    where
+      here : lowestBelow n f ≡ none → (b : Bool) → f n ≡ b → pick b (some n) none ≡ some k → (k < suc n) × (f k ≡ true) × ((i : ℕ) → i < k → f i ≡ false)
+      here o true h q = let z : n ≡ k = cc in (omega arith, rw (← z) h, λ i l. lowest-no n o i (omega arith))
+      here o false h q = let z : _≡_ {A = ℕ} 0 1 = cc in absurd (omega arith)
+
+      before : (lowestBelow n f ≡ some k → (k < n) × (f k ≡ true) × ((i : ℕ) → i < k → f i ≡ false)) → (o : Option ℕ) → lowestBelow n f ≡ o
+          → firstOf o (pick (f n) (some n) none) ≡ some k → (k < suc n) × (f k ≡ true) × ((i : ℕ) → i < k → f i ≡ false)
+      before ih none h q = here h (f n) refl q
+      before ih (some j) h q = let r = ih (h ∙ q) in (omega (arith, r .0), r .1, r .2)

@@ -3,6 +3,9 @@ use bitset::contains;
 use calendar::DateAnswer;
 use calendar::MinuteAnswer;
 use hours::HoursAnswer;
+use policy::Answer;
+use policy::Holders;
+use rota::RotaAnswer;
 
 // A number that was found, or nothing.
 #[repr(C)]
@@ -233,4 +236,98 @@ pub extern "C" fn probe_minute(year: u32, month: u32, day: u32, hour: u32, minut
             minute: 0,
         },
     }
+}
+
+#[repr(C)]
+pub struct RotaRead {
+    pub refusal: u32,
+    pub cycle: u32,
+    pub hours: u32,
+    pub users: u32,
+    pub permissions: u32,
+    pub roles: u32,
+    pub user_rows: u32,
+    pub permission_rows: u32,
+}
+
+#[no_mangle]
+pub extern "C" fn probe_rota_read(s: &[u8]) -> RotaRead {
+    match rota::read(s) {
+        RotaAnswer::Accepted(n) => RotaRead {
+            refusal: 0,
+            cycle: n.cycle,
+            hours: n.hours,
+            users: n.users,
+            permissions: n.permissions,
+            roles: n.roles,
+            user_rows: n.user_rows,
+            permission_rows: n.permission_rows,
+        },
+        RotaAnswer::Refused(n) => RotaRead {
+            refusal: n as u32,
+            cycle: 0,
+            hours: 0,
+            users: 0,
+            permissions: 0,
+            roles: 0,
+            user_rows: 0,
+            permission_rows: 0,
+        },
+    }
+}
+
+#[repr(C)]
+pub struct Answered {
+    pub refusal: u32,
+    pub yes: u32,
+    pub role: u32,
+}
+
+fn answer_out(a: Answer) -> Answered {
+    match a {
+        Answer::Yes(r) => Answered {
+            refusal: 0,
+            yes: 1,
+            role: r as u32,
+        },
+        Answer::No => Answered {
+            refusal: 0,
+            yes: 0,
+            role: 0,
+        },
+        Answer::Refused(n) => Answered {
+            refusal: n as u32,
+            yes: 0,
+            role: 0,
+        },
+    }
+}
+
+#[no_mangle]
+pub extern "C" fn probe_rota_question(s: &[u8], u: u32, p: u32, t: u32) -> Answered {
+    answer_out(rota::question(s, u, p, t))
+}
+
+#[repr(C)]
+pub struct HolderSet {
+    pub refusal: u32,
+    pub users: u64,
+}
+
+fn holders_out(a: Holders) -> HolderSet {
+    match a {
+        Holders::Users(x) => HolderSet {
+            refusal: 0,
+            users: x,
+        },
+        Holders::Refused(n) => HolderSet {
+            refusal: n as u32,
+            users: 0,
+        },
+    }
+}
+
+#[no_mangle]
+pub extern "C" fn probe_rota_holders(s: &[u8], t: u32) -> HolderSet {
+    holders_out(rota::holders(s, t))
 }

@@ -6,3 +6,7 @@ pub mod ReadLaws
 pub mod RotaWellLaws
 pub mod RotaBytesLaws
 pub mod RotaTheorems
+pub mod GatherRows
+pub mod QuestionLaws
+pub mod LocatedLaws
+pub mod Worked

@@ -3,18 +3,43 @@
 --     accepted-well, accepted-bytes, spelled-bytes, spelled-accepted      its parts
 --     read-back         reading what spells such a rota gives it back
 --     unique            two such rotas with the same bytes are one
+--     yes-iff, no-iff   when the answer is yes, through which role, and when it is no
 -- Assumes nothing.
-use Prim.Native.Nat.{ℕ}
-use mathlib.Core.Path.{_≡_, sym, _∙_, ap}
+use mathlib.Core.Path.{_≡_, refl, sym, _∙_, ap}
+use Prim.Native.Nat.{ℕ, _<_}
+use mathlib.Core.Bool.{true, false}
+use mathlib.Core.Option.{none, some}
+use native.Mathlib.Nat.{lt-trans}
+use lib.ListN.{length}
+use Rattle.ground.proofs.BoolLaws.{and-three, and-all, eq-ext, clash}
+use Rattle.ground.proofs.SearchLaws.{lowest-is, lowest-none, lowest-out, lowest-no}
 use mathlib.Core.Logic.{_↔_}
 use mathlib.Core.List.{List}
 use Rattle.endian.specs.Numbers.{Bytes}
-use Rattle.rota.specs.Rota.{Rota}
+use Rattle.rota.specs.Rota.{Rota, enabled, hasUser, hasPermission, through, answer}
 use Rattle.rota.specs.RotaBytes.{rotaBytes, rotaOf}
 use Rattle.rota.specs.RotaRefusals.{rotaJudged}
 use Rattle.rota.specs.RotaWell.{RotaWell}
 use Rattle.rota.proofs.RotaWellLaws.{judged-iff}
 use Rattle.rota.proofs.RotaBytesLaws.{read-laid, in-rota, spell-rota}
+
+-- role r is enabled at t, has user u and has permission p
+pub record Through (ρ : Rota) (u p t r : ℕ) : Type 0 where
+  pub below : r < length (ρ .roles)
+  pub on : enabled ρ r t ≡ true
+  pub user : hasUser ρ u r t ≡ true
+  pub permission : hasPermission ρ p r t ≡ true
+
+module _ (ρ : Rota) (u p t r : ℕ) where
+  through-in : Through ρ u p t r → through ρ u p t r ≡ true
+  unfolding through
+  through-in w = and-all (enabled ρ r t) (hasUser ρ u r t) (hasPermission ρ p r t) (w .on) (w .user) (w .permission)
+
+  through-out : r < length (ρ .roles) → through ρ u p t r ≡ true → Through ρ u p t r
+  unfolding through
+  through-out l h =
+      let a = and-three (enabled ρ r t) (hasUser ρ u r t) (hasPermission ρ p r t) h in
+      record { below = l; on = a .0; user = a .1; permission = a .2 }
 
 -- the rota that accepted bytes spell keeps the layout
 pub accepted-well : (s : List ℕ) → rotaJudged s ≡ 0 → RotaWell (rotaOf s)
@@ -46,3 +71,25 @@ accepted-iff s b = (
 -- no two rotas that keep the layout have the same bytes
 pub unique : (ρ σ : Rota) → RotaWell ρ → RotaWell σ → rotaBytes ρ ≡ rotaBytes σ → ρ ≡ σ
 unique ρ σ v w e = sym (read-back ρ v) ∙ ap rotaOf e ∙ read-back σ w
+
+-- the answer is yes r exactly when r is enabled, has the user and has the permission at that minute, and no lower role does
+pub yes-iff : (ρ : Rota) (u p t r : ℕ) → (answer ρ u p t ≡ some r) ↔ (Through ρ u p t r × ((q : ℕ) → q < r → Through ρ u p t q → ⊥))
+unfolding answer
+yes-iff ρ u p t r = (
+  (λ e.
+      let z = lowest-out (through ρ u p t) (length (ρ .roles)) r e in
+      (through-out ρ u p t r (z .0) (z .1), λ q l w. clash (through ρ u p t q) (through-in ρ u p t q w) (z .2 q l))),
+  (λ w.
+      lowest-is (through ρ u p t) (length (ρ .roles)) r (w .0 .below) (through-in ρ u p t r (w .0))
+      (λ q l. eq-ext (through ρ u p t q) false (λ h. absurd (w .1 q l (through-out ρ u p t q (lt-trans l (w .0 .below)) h))) (λ h. clash false h refl))),
+)
+
+-- and no exactly when there is no such role
+pub no-iff : (ρ : Rota) (u p t : ℕ) → (answer ρ u p t ≡ none) ↔ ((r : ℕ) → Through ρ u p t r → ⊥)
+unfolding answer
+no-iff ρ u p t = (
+  (λ e r w. clash (through ρ u p t r) (through-in ρ u p t r w) (lowest-no (through ρ u p t) (length (ρ .roles)) e r (w .below))),
+  (λ h.
+      lowest-none (through ρ u p t) (length (ρ .roles))
+      (λ r l. eq-ext (through ρ u p t r) false (λ e. absurd (h r (through-out ρ u p t r l e))) (λ e. clash false e refl))),
+)

@@ -1,0 +1,72 @@
+-- Loops that gather a set, each turn of which puts at most one number in.
+--     gather-none, gather-in, gather-out    before the first turn; a turn that puts a in; a turn that puts nothing in
+--     lowest-of, none-of                    the lowest member of a set given by a test, and a set with no member
+-- Assumes nothing.
+use mathlib.Core.Path.{_≡_, refl, sym, ap, ap₂, _∙_}
+use mathlib.Core.Bool.{Bool, true, false, _&&_, _||_}
+use mathlib.Core.Option.{Option, none, some}
+use Prim.Native.Nat.{ℕ, zero, suc, _+_, _≤_, _<_, _^_}
+use native.Mathlib.Nat.{lt-of-lt-of-le}
+use native.Mathlib.Omega.{arith}
+use lib.Dec.{T, eqb, ltb, eqb→eq, eqb-refl}
+use lib.Pow.{pow-pos, pow-mono}
+use borrow.Author.Tests.{eq-eqb, ltb-true}
+use Rattle.ground.specs.Search.{anyBelow, lowestBelow}
+use Rattle.ground.proofs.BoolLaws.{T-ext, eq→T, and-yes}
+use Rattle.ground.proofs.SearchLaws.{any-none, any-turn, or-false, lowest-is, lowest-none}
+use Rattle.bitset.specs.Sets.{has, setOf, insert, Lowest}
+use Rattle.bitset.proofs.SetLaws.{insert-lt, has-setOf, has-below, has-insert, has-none, setOf-has, setOf-lt, setOf-same}
+
+eqb-sym : (a b : ℕ) → eqb a b ≡ eqb b a
+eqb-sym a b = T-ext (eqb a b) (eqb b a) (λ h. flip a b h) (λ h. flip b a h)
+  where
+    flip : (a b : ℕ) → T (eqb a b) → T (eqb b a)
+    flip a b h = eq→T _ (eq-eqb b a (sym (eqb→eq a b h)))
+
+-- turn k puts target k in where its test holds
+module _ (n : ℕ) (top : n ≤ 64) (test : ℕ → Bool) (target : ℕ → ℕ) where
+  -- the numbers below n that one of the first k turns puts in
+  abbrev pub gathered : ℕ → ℕ
+  gathered k = setOf n (λ j. anyBelow k (λ i. test i && eqb (target i) j))
+
+  pub gather-none : 0 ≡ gathered 0
+  gather-none = setOf-has n 0 _ (pow-pos n) (λ i l. has-none i ∙ sym (any-none _))
+
+  module _ (k x y : ℕ) (t : Bool) (a : ℕ) (ex : x ≡ gathered k) (et : t ≡ test k) (ea : a ≡ target k) where
+    in-x : (j : ℕ) → j < n → has x j ≡ anyBelow k (λ i. test i && eqb (target i) j)
+    in-x j m = ap (λ (s : ℕ). has s j) ex ∙ has-below n _ j m
+
+    one-more : (j : ℕ) → anyBelow (k + 1) (λ i. test i && eqb (target i) j) ≡ (anyBelow k (λ i. test i && eqb (target i) j) || (t && eqb a j))
+    one-more j = any-turn _ k ∙ ap₂ (λ (b : Bool) (c : ℕ). anyBelow k (λ i. test i && eqb (target i) j) || (b && eqb c j)) (sym et) (sym ea)
+
+    pub gather-in : a < n → t ≡ true → y ≡ insert x a → y ≡ gathered (k + 1)
+    gather-in l e ey = setOf-has n y _ small members
+      where
+        members : (j : ℕ) → j < n → has y j ≡ anyBelow (k + 1) (λ i. test i && eqb (target i) j)
+        members j m =
+            ap (λ (s : ℕ). has s j) ey ∙ has-insert x a j (omega arith)
+            ∙ ap₂ _||_ (in-x j m) (eqb-sym j a ∙ ap (λ (b : Bool). b && eqb a j) (sym e)) ∙ sym (one-more j)
+
+        small : y < 2 ^ n
+        small =
+            let p : x < 2 ^ n = rw ex (setOf-lt n _) in
+            rw ey (insert-lt x a (lt-of-lt-of-le p (pow-mono top)) (omega arith) n l p)
+
+    pub gather-out : t ≡ false → y ≡ x → y ≡ gathered (k + 1)
+    gather-out e ey =
+        ey ∙ ex
+        ∙ setOf-same n _ _
+        (λ j m. sym (one-more j ∙ ap (λ (b : Bool). anyBelow k (λ i. test i && eqb (target i) j) || (b && eqb a j)) e ∙ or-false _))
+
+module _ (n : ℕ) (f : ℕ → Bool) (x : ℕ) (ex : x ≡ setOf n f) where
+  member-of : (j : ℕ) → has x j ≡ (ltb j n && f j)
+  member-of j = ap (λ (s : ℕ). has s j) ex ∙ has-setOf n f j
+
+  pub lowest-of : (r : ℕ) → Lowest x r → lowestBelow n f ≡ some r
+  lowest-of r w =
+      let b = and-yes (ltb r n) (f r) (sym (member-of r) ∙ w .member) in
+      let l : r < n = ltb-true r n (b .0) in
+      lowest-is f n r l (b .1) (λ j m. sym (has-below n f j (omega arith)) ∙ ap (λ (s : ℕ). has s j) (sym ex) ∙ w .below j m)
+
+  pub none-of : x ≡ 0 → lowestBelow n f ≡ none
+  none-of z = lowest-none f n (λ j m. sym (has-below n f j m) ∙ ap (λ (s : ℕ). has s j) (sym ex ∙ z) ∙ has-none j)

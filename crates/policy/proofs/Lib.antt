@@ -1,0 +1,2 @@
+pub mod PolicyLaws
+pub mod QuestionOutcome

@@ -1,0 +1,45 @@
+-- A question's outcome, by the stage at which it ends.
+-- Assumes nothing.
+use Prim.Native.Nat.{ℕ, _<_, _≤_}
+use mathlib.Core.Path.{_≡_, refl, sym, ap, _∙_}
+use mathlib.Core.Option.{Option}
+use borrow.Author.Tests.{le-leb, lt-leb, leb-false}
+use Rattle.ground.specs.Judgement.{refuse, _orElse_}
+use Rattle.ground.specs.Outcome.{Outcome, refused, given, outcome}
+use Rattle.ground.proofs.JudgementLaws.{orElse-ne, orElse-zero, refuse-yes, refuse-none, refuse-no}
+use Rattle.ground.proofs.OutcomeLaws.{outcome-refused, outcome-given}
+use Rattle.minutes.specs.Minutes.{E}
+use Rattle.policy.specs.Policy.{Policy, argumentsJudged, question, holdersAt, holdersQuestion}
+
+module _ (j : ℕ) (π : Policy) (t : ℕ) where
+  -- the bytes are refused
+  pub bytes-refused : (u p n : ℕ) → j ≡ n → (j ≡ 0 → ⊥) → refused n ≡ question j π u p t
+  unfolding question
+  bytes-refused u p n e h =
+      ap refused (sym e) ∙ outcome-refused j (π .answer u p t) h ∙ ap (λ (k : ℕ). outcome k (π .answer u p t)) (sym (orElse-ne j _ h))
+
+  -- a number of the question is refused, or none is
+  pub numbers-refused : (u p n : ℕ) → j ≡ 0 → n ≡ argumentsJudged (π .users) (π .permissions) u p t → (n ≡ 0 → ⊥) → refused n ≡ question j π u p t
+  unfolding question _orElse_
+  numbers-refused u p n z e h = outcome-refused n (π .answer u p t) h ∙ rw (z, e) refl
+
+  pub question-given : (u p n : ℕ) → j ≡ 0 → n ≡ argumentsJudged (π .users) (π .permissions) u p t → n ≡ 0 → given (π .answer u p t) ≡ question j π u p t
+  unfolding question _orElse_
+  question-given u p n z e h = outcome-given n (π .answer u p t) h ∙ rw (z, e) refl
+
+  pub minute-early : (u p n : ℕ) → n ≡ argumentsJudged (π .users) (π .permissions) u p t → n ≡ 0 → t < E
+  unfolding argumentsJudged
+  minute-early u p n e h = leb-false _ _ (refuse-no 32 _ (orElse-zero _ _ (sym e ∙ h) .0))
+
+  -- who holds any permission
+  pub holders-bytes : (n : ℕ) → j ≡ n → (j ≡ 0 → ⊥) → refused n ≡ holdersQuestion j π t
+  unfolding holdersQuestion
+  holders-bytes n e h = ap refused (sym e) ∙ outcome-refused j (holdersAt π t) h ∙ ap (λ (k : ℕ). outcome k (holdersAt π t)) (sym (orElse-ne j _ h))
+
+  pub holders-late : j ≡ 0 → E ≤ t → refused 33 ≡ holdersQuestion j π t
+  unfolding holdersQuestion _orElse_ outcome
+  holders-late z h = rw (z, refuse-yes 33 _ (le-leb E t h)) refl
+
+  pub holders-given : (x : ℕ) → j ≡ 0 → t < E → x ≡ holdersAt π t → given x ≡ holdersQuestion j π t
+  unfolding holdersQuestion _orElse_ outcome
+  holders-given x z h e = ap given e ∙ rw (z, refuse-none 33 _ (lt-leb E t h)) refl

@@ -1,0 +1,52 @@
+-- The tests and targets of the loops that gather roles and users from rows.
+-- Assumes nothing.
+use Prim.Native.Nat.{ℕ, _+_, _*_, _≤_, _<_}
+use mathlib.Core.Path.{_≡_, sym, ap, _∙_}
+use mathlib.Core.List.{List}
+use mathlib.Core.Bool.{Bool, true, false, _&&_}
+use native.Mathlib.Omega.{arith}
+use lib.Dec.{eqb}
+use lib.ListN.{length}
+use Rattle.bitset.specs.Sets.{has}
+use Rattle.endian.specs.Numbers.{u8At}
+use Rattle.hours.specs.Hours.{dangling, refOf}
+use Rattle.hours.specs.declared.HoursRef.{HoursRef}
+use Rattle.hours.specs.Answers.{refIn}
+use Rattle.rota.specs.RotaBytes.{hoursOf, rolesOf, rolesAt, roleRef, rowAt, rowAtByte}
+use Rattle.rota.specs.Answers.{rowIn, RowsFine, RolesFine}
+
+abbrev pub ofNumber : List ℕ → ℕ → ℕ → ℕ → ℕ → Bool
+ofNumber s set at x k = eqb (rowAt s at k .number) x && rowIn s set at k
+
+abbrev pub withRole : List ℕ → ℕ → ℕ → ℕ → ℕ → Bool
+withRole s set at roles k = has roles (rowAt s at k .role) && rowIn s set at k
+
+abbrev pub roleAt : List ℕ → ℕ → ℕ → ℕ
+roleAt s at k = rowAt s at k .role
+
+abbrev pub numberAt : List ℕ → ℕ → ℕ → ℕ
+numberAt s at k = rowAt s at k .number
+
+-- what a turn of such a loop may read
+module _ (s : List ℕ) (top at n : ℕ) (f : RowsFine s top at n) (k : ℕ) (l : k < n) where
+  pub row-within : at + 3 * k + 3 ≤ length s
+  row-within = omega (arith, f .within)
+
+  pub row-refers : (h : ℕ) → h ≡ hoursOf s → dangling h (rowAtByte s (at + 3 * k) .hours) ≡ false
+  row-refers h e = rw e (f .each k l .hours)
+
+-- the test of a row by its role, which is read as i, and then by its hours
+module _ (s : List ℕ) (at set roles i : ℕ) (b : Bool) (r : Bool) (ei : i ≡ rowAtByte s at .role) (eb : b ≡ has roles i) where
+  pub with-yes : b ≡ true → r ≡ refIn set (rowAtByte s at .hours) → r ≡ (has roles (rowAtByte s at .role) && refIn set (rowAtByte s at .hours))
+  with-yes h er = er ∙ sym (ap (λ (c : Bool). c && refIn set (rowAtByte s at .hours)) (ap (has roles) (sym ei) ∙ sym eb ∙ h))
+
+  pub with-no : b ≡ false → false ≡ (has roles (rowAtByte s at .role) && refIn set (rowAtByte s at .hours))
+  with-no h = sym (ap (λ (c : Bool). c && refIn set (rowAtByte s at .hours)) (ap (has roles) (sym ei) ∙ sym eb ∙ h))
+
+-- role byte k, which is read as the reference q
+module _ (s : List ℕ) (at n : ℕ) (f : RolesFine s at n) where
+  pub role-refers : (k : ℕ) → k < n → (h : ℕ) (q : HoursRef) → h ≡ hoursOf s → q ≡ refOf (u8At s (at + k)) → dangling h q ≡ false
+  role-refers k l h q eh eq = rw (eq, eh, f .place) (f .each k l)
+
+  pub role-tested : (k set : ℕ) (q : HoursRef) (b : Bool) → q ≡ refOf (u8At s (at + k)) → b ≡ refIn set q → b ≡ refIn set (roleRef s k)
+  role-tested k set q b eq eb = eb ∙ ap (refIn set) (eq ∙ ap (λ (i : ℕ). refOf (u8At s (i + k))) (f .place))

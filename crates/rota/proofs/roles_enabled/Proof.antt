@@ -1,0 +1,97 @@
+use borrow.Author.Needs.{needs}
+use Rattle.rota.proofs.GatherRows.{role-refers, role-tested}
+use Rattle.rota.specs.Answers.{rolesEnabled}
+use Rattle.rota.specs.RotaBytes.{roleRef}
+use Rattle.hours.specs.Answers.{refIn}
+use Rattle.hours.specs.Hours.{dangling, refOf}
+use Rattle.endian.specs.Numbers.{u8At}
+use Rattle.bitset.proofs.SetLaws.{setOf-none, turn-in, turn-out}
+use Rattle.bitset.specs.Sets.{setOf}
+use native.Mathlib.Nat.{le-antisymm}
+use native.Mathlib.Omega.{arith}
+use mathlib.Core.Logic.{⊎-elim}
+use mathlib.Core.Path.{_≡_, sym, ap, _∙_}
+use Prim.Native.Nat.{ℕ, _≤_, _-_, _+_}
+use Rattle.rota.proofs.roles_enabled.Statement.{statement}
+use Rattle.rota.proofs.roles_enabled.Tie as tie
+use Rattle.rota.proofs.roles_enabled.Reads as reads
+use Rattle.rota.proofs.roles_enabled.Lts as lts
+use Rattle.bitset.proofs.with.Reads as with-reads
+use Rattle.hours.proofs.decode.Reads as decode-reads
+use Rattle.hours.proofs.ref_holds.Reads as ref-holds-reads
+
+abbrev Inv-loop : tie.InvT-loop
+Inv-loop s h set at n roles₀ k₀ roles k = (k ≤ n) × (roles ≡ rolesEnabled s set k)
+
+abbrev μ-loop : tie.MeasureT-loop
+μ-loop s h set at n roles₀ k₀ roles k = n - k
+
+-- src/lib.rt:307:5
+loop-holds : tie.Need-loop-holds Inv-loop μ-loop
+unfolding rolesEnabled
+loop-holds c = (search needs, setOf-none _)
+
+-- src/lib.rt:308:38
+add-decode : tie.Need-add-decode Inv-loop μ-loop
+add-decode c = omega (arith, c .before .before .before .pre .0 .within)
+
+-- src/lib.rt:308:36
+shared-slice-read-decode : tie.Need-shared-slice-read-decode Inv-loop μ-loop
+shared-slice-read-decode c = omega (arith, c .before .before .before .before .pre .0 .within)
+
+-- src/lib.rt:308:29
+decode-requires : tie.Need-decode-requires Inv-loop μ-loop
+decode-requires c κs = search needs
+
+-- src/lib.rt:308:12
+ref-holds-requires : tie.Need-ref-holds-requires Inv-loop μ-loop
+ref-holds-requires c κs = let p = c .before .before .before .before .before .pre in (role-refers _ _ _ (p .0) _ (c .before .before .loop-test .taken) _ _ (p .1) (c .decode .ensures), p .2)
+
+-- src/lib.rt:309:41
+cast-with : tie.Need-cast-with Inv-loop μ-loop
+cast-with c = omega (arith, c .before .before .before .before .before .before .before .pre .0 .few)
+
+-- src/lib.rt:309:13
+with-requires : tie.Need-with-requires Inv-loop μ-loop
+with-requires c κs = omega (arith, c .before .before .before .before .before .before .before .pre .0 .few)
+
+-- src/lib.rt:311:9
+add-k : tie.Need-add-k Inv-loop μ-loop
+add-k c = search needs
+
+-- src/lib.rt:307:5
+loop-less : tie.Need-loop-less Inv-loop μ-loop
+loop-less c = search needs
+
+-- src/lib.rt:307:5
+loop-again : tie.Need-loop-again Inv-loop μ-loop
+unfolding rolesEnabled
+loop-again c = let p = c .before .before .before .before .before .before .before .pre in let a = c .before .before .before .before .before .before .before .args in (
+  omega arith,
+  ⊎-elim
+      (λ w. turn-in (c .before .before .before .before .before .loop .k) (λ r. refIn (a .set) (roleRef (a .s .now) r)) (omega (arith, p .0 .few)) _ _ _ (c .before .before .before .before .before .loop .inv .1) (role-tested _ _ _ (p .0) _ _ _ _ (c .before .before .decode .ensures) (c .before .ref-holds .ensures)) (w .0 .taken) (w .2 ∙ w .1 .ensures))
+      (λ w. turn-out (c .before .before .before .before .before .loop .k) (λ r. refIn (a .set) (roleRef (a .s .now) r)) (omega (arith, p .0 .few)) _ _ _ (c .before .before .before .before .before .loop .inv .1) (role-tested _ _ _ (p .0) _ _ _ _ (c .before .before .decode .ensures) (c .before .ref-holds .ensures)) (w .0 .left) (w .1))
+      (c .if1 .came),
+)
+
+-- src/lib.rt:301:1
+returns : tie.Need-returns Inv-loop μ-loop
+returns c = rw (← (le-antisymm (c .before .loop .inv .0) (c .loop-test .left))) (c .before .loop .inv .1)
+
+pub roles-enabled-spec : {M : Type 1} → statement M
+roles-enabled-spec =
+    tie.close
+    (tie.spec
+    Inv-loop
+    μ-loop
+    loop-holds
+    add-decode
+    shared-slice-read-decode
+    decode-requires
+    ref-holds-requires
+    cast-with
+    with-requires
+    add-k
+    loop-less
+    loop-again
+    returns)

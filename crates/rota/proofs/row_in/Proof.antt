@@ -1,0 +1,36 @@
+use Rattle.hours.specs.Answers.{refIn}
+use Rattle.hours.specs.Hours.{dangling}
+use mathlib.Core.Bool.{false}
+use mathlib.Core.Path.{ap, _∙_, sym, subst}
+use borrow.Author.Needs.{needs}
+use Rattle.rota.proofs.row_in.Statement.{statement}
+use Rattle.rota.proofs.row_in.Tie as tie
+use Rattle.rota.proofs.row_in.Reads as reads
+use Rattle.rota.proofs.row_in.Lts as lts
+use Rattle.hours.proofs.decode.Reads as decode-reads
+use Rattle.hours.proofs.ref_holds.Reads as ref-holds-reads
+
+-- src/lib.rt:242:31
+add-decode : tie.Need-add-decode
+add-decode c = search needs
+
+-- src/lib.rt:242:29
+shared-slice-read-decode : tie.Need-shared-slice-read-decode
+shared-slice-read-decode c = search needs
+
+-- src/lib.rt:242:22
+decode-requires : tie.Need-decode-requires
+decode-requires c κs = search needs
+
+-- src/lib.rt:242:5
+ref-holds-requires : tie.Need-ref-holds-requires
+ref-holds-requires c κs = let p = c .before .before .before .pre in (ap (dangling (c .before .before .before .args .h)) (c .decode .ensures) ∙ p .2, p .1)
+
+-- src/lib.rt:238:1
+returns : tie.Need-returns
+returns c = c .ref-holds .ensures ∙ ap (refIn (c .before .before .before .before .args .set)) (c .before .decode .ensures)
+
+pub row-in-spec : {M : Type 1} → statement M
+row-in-spec =
+    tie.close
+    (tie.spec add-decode shared-slice-read-decode decode-requires ref-holds-requires returns)
