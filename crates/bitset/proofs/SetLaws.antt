@@ -5,7 +5,8 @@
 --     has-setOf, setOf-lt, setOf-same     members of a set given by a test, and its size as a number
 --     has-insert .. has-difference        members of each operation
 --     ones-count                          the language's count is the number of members
---     setOf-none, setOf-turn, turn-in, turn-out   a loop that gathers a set
+--     member-in, member-out               a set given by a test is not empty
+--     setOf-none, turn-in, turn-out       a loop that gathers a set
 -- Assumes nothing.
 use mathlib.Core.Path.{_≡_, refl, sym, ap, ap₂, _∙_, subst}
 use mathlib.Core.Bool.{Bool, true, false, _&&_, _||_, not}
@@ -18,9 +19,11 @@ use lib.Arith.{lt-one}
 use lib.Pow.{pow-pos, pow-lt, pow-mono, shr-shr, shl-exact}
 use lib.Bits.{bitAnd, bitOr, and-le-l, and-shr, or-shr, and-mod, or-mod, or-lt}
 use lib.Count.{ones, ones-step}
-use borrow.Author.Tests.{eq-eqb, ne-eqb, eqb-true, eqb-false, lt-ltb, le-ltb, ltb-true, ltb-false}
+use borrow.Author.Tests.{eq-eqb, ne-eqb, eqb-true, eqb-false, lt-ltb, le-ltb, ltb-true, ltb-false, not-true}
 use Rattle.ground.specs.Search.{one, countBelow}
-use Rattle.ground.proofs.BoolLaws.{ltb-iff, T-ext, eq→T}
+use Rattle.ground.specs.Search.{anyBelow}
+use Rattle.ground.proofs.BoolLaws.{ltb-iff, T-ext, eq→T, clash}
+use Rattle.ground.proofs.SearchLaws.{any-stop, any-out, or-true, or-false}
 use Rattle.bitset.specs.Sets.{has, setOf, insert, remove, union, intersection, difference, count}
 
 -- ---- the lowest bit, and the rest
@@ -331,3 +334,32 @@ module _ (i : ℕ) (f : ℕ → Bool) (l : i < 64) where
 
     pub turn-out : t ≡ false → y ≡ x → y ≡ setOf (i + 1) f
     turn-out e ey = ey ∙ ex ∙ sym (setOf-out (sym et ∙ e))
+
+-- ---- a set given by a test is not empty
+module _ (n : ℕ) (f : ℕ → Bool) where
+  pub member-in : (i : ℕ) → i < n → f i ≡ true → not (eqb (setOf n f) 0) ≡ true
+  member-in i l h = go (eqb (setOf n f) 0) refl
+    where
+      go : (b : Bool) → eqb (setOf n f) 0 ≡ b → not b ≡ true
+      go true e = clash (has 0 i) (ap (λ (x : ℕ). has x i) (sym (eqb-true _ 0 e)) ∙ has-below n f i l ∙ h) (has-none i)
+      go false e = refl
+
+  pub member-out : not (eqb (setOf n f) 0) ≡ true → (i : ℕ) × (i < n) × (f i ≡ true)
+  member-out h = go (anyBelow n f) refl
+    where
+      none-there : anyBelow n f ≡ false → (i : ℕ) → i < n → (b : Bool) → f i ≡ b → has 0 i ≡ b
+      none-there e i l true q = clash (anyBelow n f) (any-stop f n i l q) e
+      none-there e i l false q = has-none i
+
+      go : (b : Bool) → anyBelow n f ≡ b → (i : ℕ) × (i < n) × (f i ≡ true)
+      go true e = any-out n f e
+      go false e =
+          clash (eqb (setOf n f) 0) (eq-eqb _ 0 (sym (setOf-has n 0 f (pow-pos n) (λ i l. none-there e i l (f i) refl))))
+          (not-true (eqb (setOf n f) 0) h)
+
+-- ---- one member more
+pub insert-self : (x i : ℕ) → i < 64 → has (insert x i) i ≡ true
+insert-self x i l = rw (has-insert x i i l, eq-eqb i i refl) (or-true (has x i))
+
+pub insert-other : (x i j : ℕ) → j < 64 → (j ≡ i → ⊥) → has (insert x i) j ≡ has x j
+insert-other x i j l ne = rw (has-insert x i j l, ne-eqb j i ne) (or-false (has x j))

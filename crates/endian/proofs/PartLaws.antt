@@ -68,7 +68,7 @@ module _ (s : List ℕ) where
         let c = split (u16At s at) (u16At s (at + 2)) (below16 at) (below16 (at + 2)) in
         rw (c .0, c .1) (ap₂ (λ (x y : List ℕ). x ++ y) (spell16 at (omega arith)) (spell16 (at + 2) (omega arith)) ∙ part-join at 2 2)
 
-    below32 : (at : ℕ) → u32At s at < 4294967296
+    pub below32 : (at : ℕ) → u32At s at < 4294967296
     unfolding u32At
     below32 at = omega (arith, below16 at, below16 (at + 2))
 

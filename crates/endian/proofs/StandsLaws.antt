@@ -4,7 +4,7 @@ use Prim.Native.Nat.{ℕ, zero, suc, _+_, _*_, _≤_, _<_, _/_, _%_}
 use mathlib.Core.Path.{_≡_, refl, sym, _∙_, ap, subst}
 use mathlib.Core.List.{List, [], _∷_, _++_, append-assoc, append-nil}
 use native.Mathlib.Omega.{arith}
-use native.Mathlib.Nat.{add-suc, add-zero, not-suc-le-zero, le-of-suc-le-suc}
+use native.Mathlib.Nat.{add-suc, add-zero, not-suc-le-zero, le-of-suc-le-suc, mul-zero, mul-suc}
 use lib.ListN.{length, getD, length-append}
 use lib.Seq.{getD-at}
 use Rattle.ground.specs.Sequence.{joined, All}
@@ -73,3 +73,19 @@ module _ {ℓ} {A : Type ℓ} (s : List ℕ) (e : A → List ℕ) (P : A → Typ
       let st = step k x (at-left (e x) (joined e xs) w) (all .0) in
       let h : Q (suc k + i) = each-item (suc k) xs (at-moved (joined e xs) (sym (st .1)) (at-right (e x) (joined e xs) w)) (all .1) i (le-of-suc-le-suc l) in
       subst Q (omega arith) h
+
+-- items of one width: the length of all, and where each stands
+module _ {ℓ} {A : Type ℓ} where
+  module _ (e : A → List ℕ) (z : ℕ) (width : (x : A) → length (e x) ≡ z) where
+    pub joined-length : (xs : List A) → length (joined e xs) ≡ z * length xs
+    unfolding joined
+    joined-length [] = sym (mul-zero z)
+    joined-length (x ∷ xs) = omega (arith, length-append (e x) (joined e xs), width x, joined-length xs, mul-suc z (length xs))
+
+    pub item-at : {s : List ℕ} (xs : List A) (a : ℕ) → At s a (joined e xs) → (d : A) (i : ℕ) → i < length xs → At s (a + z * i) (e (getD xs i d))
+    unfolding joined
+    item-at [] a w d i l = absurd (not-suc-le-zero l)
+    item-at (x ∷ xs) a w d zero l = at-moved (e x) (omega (arith, mul-zero z)) (at-left (e x) (joined e xs) w)
+    item-at (x ∷ xs) a w d (suc i) l =
+        at-moved (e (getD xs i d)) (omega (arith, width x, mul-suc z i))
+        (item-at xs (a + length (e x)) (at-right (e x) (joined e xs) w) d i (le-of-suc-le-suc l))

@@ -3,3 +3,4 @@ pub mod OutcomeLaws
 pub mod JudgementLaws
 pub mod SearchLaws
 pub mod SequenceLaws
+pub mod ListLaws

@@ -1,6 +1,7 @@
 -- Laws of bounded search, one for each way that a searching loop can go, and what a search that ended says.
 --     any-none, any-more, any-stop    the loop over `anyBelow`
---     any-turn, any-same, any-out     one turn, whatever the test says; tests that agree below the bound; a number that passes
+--     any-turn, any-same              one turn, whatever the test says; tests that agree below the bound
+--     any-out, any-no, any-none-of    a number that passes; none does
 --     list-any                        some element of a list given by index
 --     lowest-is, lowest-none, lowest-some, lowest-out, lowest-no    the lowest number that passes, and where there is none
 -- Assumes nothing.
@@ -16,7 +17,7 @@ use native.Mathlib.Omega.{arith}
 use Rattle.ground.specs.Choice.{pick}
 use Rattle.ground.specs.Search.{any, anyBelow, firstOf, lowestBelow}
 use Rattle.ground.specs.Sequence.{listOf}
-use Rattle.ground.proofs.BoolLaws.{pick-true, pick-false, eq-ext}
+use Rattle.ground.proofs.BoolLaws.{pick-true, pick-false, not-yes, clash}
 
 pub or-true : (b : Bool) → (b || true) ≡ true
 or-true true = refl
@@ -78,6 +79,14 @@ any-out (suc n) f h = go (anyBelow n f) refl (any-out n f) h
     go true e before k = let r = before e in (r .0, lt-trans (r .1) (le-refl (suc n)), r .2)
     go false e before k = (n, le-refl (suc n), k)
 
+pub any-no : (n : ℕ) (f : ℕ → Bool) → anyBelow n f ≡ false → (i : ℕ) → i < n → f i ≡ false
+any-no n f e i l = not-yes (f i) (λ h. clash (anyBelow n f) (any-stop f n i l h) e)
+
+pub any-none-of : (n : ℕ) (f : ℕ → Bool) → ((i : ℕ) → i < n → f i ≡ false) → anyBelow n f ≡ false
+unfolding anyBelow
+any-none-of zero f h = refl
+any-none-of (suc n) f h = rw (any-none-of n f (λ i l. h i (lt-trans l (le-refl (suc n)))), h n (le-refl (suc n))) refl
+
 module _ (f : ℕ → Bool) where
   pub lowest-none : (n : ℕ) → ((i : ℕ) → i < n → f i ≡ false) → lowestBelow n f ≡ none
   unfolding lowestBelow firstOf
@@ -100,22 +109,19 @@ module _ (f : ℕ → Bool) where
   lowest-some zero h = let z : _≡_ {A = ℕ} 0 1 = cc in absurd (omega arith)
   lowest-some (suc n) h = go (anyBelow n f) refl (lowest-some n) h
     where
-      none-before : anyBelow n f ≡ false → (i : ℕ) → i < n → f i ≡ false
-      none-before e i l = eq-ext (f i) false (λ h. sym e ∙ any-stop f n i l h) (λ h. let z : _≡_ {A = ℕ} 0 1 = cc in absurd (omega arith))
-
       go : (b : Bool) → anyBelow n f ≡ b → (anyBelow n f ≡ true → (k : ℕ) × (k < n) × (lowestBelow n f ≡ some k) × (f k ≡ true)) → (b || f n) ≡ true
           → (k : ℕ) × (k < suc n) × (firstOf (lowestBelow n f) (pick (f n) (some n) none) ≡ some k) × (f k ≡ true)
       go true e before k =
           let r = before e in
           (r .0, lt-trans (r .1) (le-refl (suc n)), ap (λ (o : Option ℕ). firstOf o (pick (f n) (some n) none)) (r .2), r .3)
-      go false e before k = (n, le-refl (suc n), ap₂ firstOf (lowest-none n (none-before e)) (pick-true (f n) (some n) none k), k)
+      go false e before k = (n, le-refl (suc n), ap₂ firstOf (lowest-none n (any-no n f e)) (pick-true (f n) (some n) none k), k)
 
   -- what the lowest one is, and that there is none
   pub lowest-no : (n : ℕ) → lowestBelow n f ≡ none → (i : ℕ) → i < n → f i ≡ false
-  lowest-no n e i l = eq-ext (f i) false (λ h. absurd (clash (lowest-some n (any-stop f n i l h)))) (λ h. let z : _≡_ {A = ℕ} 0 1 = cc in absurd (omega arith))
+  lowest-no n e i l = not-yes (f i) (λ h. differ (lowest-some n (any-stop f n i l h)))
     where
-      clash : (k : ℕ) × (k < n) × (lowestBelow n f ≡ some k) × (f k ≡ true) → ⊥
-      clash r = let q = r .2 in let z : _≡_ {A = ℕ} 0 1 = cc in omega arith
+      differ : (k : ℕ) × (k < n) × (lowestBelow n f ≡ some k) × (f k ≡ true) → ⊥
+      differ r = let q = r .2 in let z : _≡_ {A = ℕ} 0 1 = cc in omega arith
 
   pub lowest-out : (n k : ℕ) → lowestBelow n f ≡ some k → (k < n) × (f k ≡ true) × ((i : ℕ) → i < k → f i ≡ false)
   unfolding lowestBelow firstOf
@@ -130,3 +136,24 @@ module _ (f : ℕ → Bool) where
           → firstOf o (pick (f n) (some n) none) ≡ some k → (k < suc n) × (f k ≡ true) × ((i : ℕ) → i < k → f i ≡ false)
       before ih none h q = here h (f n) refl q
       before ih (some j) h q = let r = ih (h ∙ q) in (omega (arith, r .0), r .1, r .2)
+
+-- the lowest one by cases, and for tests that agree
+pub lowest-cases {ℓ} : (P : Option ℕ → Type ℓ) (n : ℕ) (f : ℕ → Bool) → ((k : ℕ) → k < n → f k ≡ true → P (some k))
+    → (((k : ℕ) → k < n → f k ≡ true → ⊥) → P none) → P (lowestBelow n f)
+unfolding lowestBelow firstOf
+lowest-cases P zero f found no-one = no-one (λ k l h. not-suc-le-zero l)
+lowest-cases P (suc n) f found no-one =
+    lowest-cases (λ o. P (firstOf o (pick (f n) (some n) none))) n f (λ k l h. found k (lt-trans l (le-refl (suc n))) h) (λ h. last h (f n) refl)
+  where
+    last : ((k : ℕ) → k < n → f k ≡ true → ⊥) → (b : Bool) → f n ≡ b → P (pick b (some n) none)
+    last h true e = found n (le-refl (suc n)) e
+    last h false e =
+        no-one
+        (λ k l g. ⊎-elim (λ (q : k ≡ n). clash (f k) g (ap f q ∙ e)) (λ (q : k < n). h k q g) (eq-or-lt-of-le (le-of-suc-le-suc l)))
+
+pub lowest-same : (n : ℕ) (f g : ℕ → Bool) → ((i : ℕ) → i < n → f i ≡ g i) → lowestBelow n f ≡ lowestBelow n g
+unfolding lowestBelow
+lowest-same zero f g h = refl
+lowest-same (suc n) f g h =
+    ap₂ (λ (o : Option ℕ) (b : Bool). firstOf o (pick b (some n) none)) (lowest-same n f g (λ i l. h i (lt-trans l (le-refl (suc n)))))
+    (h n (le-refl (suc n)))

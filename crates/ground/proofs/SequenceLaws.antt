@@ -1,13 +1,15 @@
 -- Laws of lists by index and of joined lists.
 --     listOf-length, listOf-cons, all-listOf, get-listOf   length, first element, a condition on every element, the element at an index
+--     listOf-all, listOf-next, listOf-is                   from a condition on every element, or on neighbours, to the index; the list itself
 --     joined-append, joined-listOf                         joined lists, one part more
 -- Assumes nothing.
 use Prim.Native.Nat.{ℕ, zero, suc, _+_, _<_}
-use mathlib.Core.Path.{_≡_, refl, sym, _∙_, ap}
+use mathlib.Core.Path.{_≡_, refl, sym, _∙_, ap, subst, subst₂}
 use mathlib.Core.List.{List, [], _∷_, _++_, append-assoc, append-nil}
 use native.Mathlib.Omega.{arith}
 use native.Mathlib.Nat.{not-suc-le-zero, le-of-suc-le-suc}
 use lib.ListN.{length, getD, length-append}
+use lib.Seq.{ext-getD}
 use Rattle.ground.specs.Sequence.{listOf, joined, All}
 
 pub listOf-length {ℓ} : {A : Type ℓ} (n : ℕ) (f : ℕ → A) → length (listOf n f) ≡ n
@@ -37,3 +39,22 @@ joined-append e (x ∷ xs) ys = rw (joined-append e xs ys) (sym (append-assoc (e
 pub joined-listOf {ℓ} : {A : Type ℓ} (e : A → List ℕ) (f : ℕ → A) (n : ℕ) → joined e (listOf (suc n) f) ≡ joined e (listOf n f) ++ e (f n)
 unfolding joined listOf
 joined-listOf e f n = joined-append e (listOf n f) (f n ∷ []) ∙ ap (λ (l : List ℕ). joined e (listOf n f) ++ l) (append-nil (e (f n)))
+
+module _ {ℓ} {A : Type ℓ} where
+  all-at : (P : A → Type 0) (xs : List A) (d : A) → All P xs → (i : ℕ) → i < length xs → P (getD xs i d)
+  all-at P [] d all i l = absurd (not-suc-le-zero l)
+  all-at P (x ∷ xs) d all zero l = all .0
+  all-at P (x ∷ xs) d all (suc i) l = all-at P xs d (all .1) i (le-of-suc-le-suc l)
+
+  pub listOf-all : (P : A → Type 0) (n : ℕ) (f : ℕ → A) → All P (listOf n f) → (i : ℕ) → i < n → P (f i)
+  listOf-all P n f all i l = subst P (get-listOf n f (f i) i l) (all-at P (listOf n f) (f i) all i (rw listOf-length l))
+
+  pub listOf-next : (R : A → A → Type 0) (n : ℕ) (f : ℕ → A) (d : A)
+      → ((i : ℕ) → suc i < length (listOf n f) → R (getD (listOf n f) i d) (getD (listOf n f) (suc i) d)) → (i : ℕ) → suc i < n → R (f i) (f (suc i))
+  listOf-next R n f d h i l =
+      subst₂ R (get-listOf n f d i (omega arith)) (get-listOf n f d (suc i) l) (h i (rw listOf-length l))
+
+  pub listOf-is : (n : ℕ) (f : ℕ → A) (xs : List A) (d : A) → n ≡ length xs → ((i : ℕ) → i < length xs → f i ≡ getD xs i d) → listOf n f ≡ xs
+  listOf-is n f xs d e h =
+      ext-getD d (listOf n f) xs (listOf-length n f ∙ e)
+      (λ i l. let m : i < n = omega (arith, listOf-length n f) in get-listOf n f d i m ∙ h i (omega arith))

@@ -2,7 +2,6 @@ pub mod PairLaws
 pub mod RefLaws
 pub mod JudgeLaws
 pub mod WalkLaws
-pub mod RestLaws
 pub mod RecordLaws
 pub mod RecordBytesLaws
 pub mod ByteLaws

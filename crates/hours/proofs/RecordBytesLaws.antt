@@ -2,6 +2,8 @@
 --     ref-read, read-pairs, read-hours, read-records     what is read from the bytes that spell a value is that value
 --     ref-spelt, spell-records                           the value that bytes spell is spelled by those bytes
 -- Assumes nothing.
+use Rattle.ground.proofs.ListLaws.{all-unit}
+use Rattle.endian.proofs.RestLaws.{Rest, rest-to, next16, next32, rest-items}
 use Prim.Native.Nat.{ℕ, suc, _+_, _*_, _≤_}
 use mathlib.Core.Path.{_≡_, refl, sym, _∙_, ap, ap₂}
 use mathlib.Core.Bool.{Bool, true, false}
@@ -19,7 +21,6 @@ use Rattle.hours.specs.Hours.{Pair, Hours, refOf, refByte, dangling}
 use Rattle.hours.specs.HoursBytes.{pairBytes, hoursBytes, pairAt, pairsAt, hoursAt, recordAt, pairsBefore, hoursFrom}
 use Rattle.hours.specs.declared.HoursRef.{HoursRef}
 use Rattle.hours.specs.declared.HoursRef.the-variants.{Always, Numbered}
-use Rattle.hours.proofs.RestLaws.{Rest, all-unit, rest-to, next16, next32, rest-items}
 use Rattle.hours.proofs.RecordLaws.{recordAt-is, pairsBefore-up}
 
 -- references

@@ -6,6 +6,7 @@ use hours::HoursAnswer;
 use policy::Answer;
 use policy::Holders;
 use rota::RotaAnswer;
+use table::TableAnswer;
 
 // A number that was found, or nothing.
 #[repr(C)]
@@ -330,4 +331,49 @@ fn holders_out(a: Holders) -> HolderSet {
 #[no_mangle]
 pub extern "C" fn probe_rota_holders(s: &[u8], t: u32) -> HolderSet {
     holders_out(rota::holders(s, t))
+}
+
+#[repr(C)]
+pub struct TableRead {
+    pub refusal: u32,
+    pub cycle: u32,
+    pub users: u32,
+    pub permissions: u32,
+    pub roles: u32,
+    pub derived: u32,
+    pub rows: u32,
+}
+
+#[no_mangle]
+pub extern "C" fn probe_table_read(s: &[u8]) -> TableRead {
+    match table::read(s) {
+        TableAnswer::Accepted(n) => TableRead {
+            refusal: 0,
+            cycle: n.cycle,
+            users: n.users,
+            permissions: n.permissions,
+            roles: n.roles,
+            derived: n.derived,
+            rows: n.rows,
+        },
+        TableAnswer::Refused(n) => TableRead {
+            refusal: n as u32,
+            cycle: 0,
+            users: 0,
+            permissions: 0,
+            roles: 0,
+            derived: 0,
+            rows: 0,
+        },
+    }
+}
+
+#[no_mangle]
+pub extern "C" fn probe_table_question(s: &[u8], u: u32, p: u32, t: u32) -> Answered {
+    answer_out(table::question(s, u, p, t))
+}
+
+#[no_mangle]
+pub extern "C" fn probe_table_holders(s: &[u8], t: u32) -> HolderSet {
+    holders_out(table::holders(s, t))
 }

@@ -3,6 +3,8 @@
 --     in-rota                  what spells a rota is bytes
 --     spell-rota               the rota that bytes spell is spelled by those bytes
 -- Assumes nothing.
+use Rattle.endian.proofs.RestLaws.{Rest, rest-whole, rest-none, rest-to, next8, next16, rest-items}
+use Rattle.endian.proofs.ByteLaws.{AllBytes, _then_, in8, in16, in-joined}
 use Prim.Native.Nat.{ℕ, suc, _+_, _*_, _≤_, _<_}
 use mathlib.Core.Path.{_≡_, refl, sym, _∙_, ap, ap₂}
 use mathlib.Core.List.{List, [], _++_, append-assoc, append-nil}
@@ -15,8 +17,7 @@ use Rattle.endian.specs.Numbers.{Bytes, u8At, u16At, bytes8, bytes16}
 use Rattle.endian.proofs.PartLaws.{part, part-join, part-one, tiles, spell16}
 use Rattle.hours.specs.Hours.{refOf, refByte}
 use Rattle.hours.specs.declared.HoursRef.{HoursRef}
-use Rattle.hours.proofs.ByteLaws.{AllBytes, _then_, in8, in16, in-joined, in-ref, in-records}
-use Rattle.hours.proofs.RestLaws.{Rest, rest-whole, rest-none, rest-to, next8, next16, rest-items}
+use Rattle.hours.proofs.ByteLaws.{in-ref, in-records}
 use Rattle.hours.proofs.RecordLaws.{recordAt-is}
 use Rattle.hours.proofs.RecordBytesLaws.{ref-spelt, ref-read, read-records, spell-records}
 use Rattle.rota.specs.Rota.{Row, Rota}

@@ -11,12 +11,8 @@ use native.Mathlib.Omega.{arith}
 use lib.ListN.{length, length-append}
 use Rattle.ground.specs.Sequence.{listOf, joined, All}
 use Rattle.ground.proofs.SequenceLaws.{listOf-cons}
 use Rattle.endian.specs.Numbers.{u8At, u16At, u32At, bytes8, bytes16, bytes32}
 use Rattle.endian.proofs.StandsLaws.{At, at-left, at-right, at-byte, at16, at32, at-whole}
-
-pub all-unit {ℓ} : {A : Type ℓ} (xs : List A) → All (λ (x : A). Unit {0}) xs
-all-unit [] = tt
-all-unit (x ∷ xs) = (tt, all-unit xs)
 
 -- l is what s holds from a on
 pub record Rest (s : List ℕ) (a : ℕ) (l : List ℕ) : Type 0 where

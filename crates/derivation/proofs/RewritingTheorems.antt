@@ -1,0 +1,123 @@
+-- What the rewriting of a rota to a table gives (document 01, "Rewriting"), for every rota that keeps the layout.
+--     constancy                           within a field nothing changes
+--     field-there, field-one, field-once  each minute lies in exactly one field
+--     kept-by-first, kept-mask            what a field is kept as: by its first minute, and by the hours that hold in it
+--     active-means, means                 when a role is active, and what the table's derived roles of it are then
+--     same-through, same-answer           the table answers as the rota does
+--     fewest                              no other table of untimed users and permissions has fewer derived roles of a role
+--     worked-field                        the worked field of document 01
+-- Assumes nothing.
+use Prim.Native.Nat.{ℕ, _≤_, _<_}
+use mathlib.Core.Path.{_≡_, sym, ap, _∙_}
+use mathlib.Core.Logic.{_↔_}
+use mathlib.Core.Bool.{true}
+use mathlib.Core.Option.{none, some}
+use mathlib.Core.List.{List, List·Memᴰ}
+use lib.Dec.{ltb, eqb}
+use lib.ListN.{length}
+use Rattle.ground.specs.Choice.{pick}
+use Rattle.minutes.specs.Minutes.{E, Window, covers}
+use Rattle.hours.specs.declared.HoursRef.{HoursRef}
+use Rattle.rota.specs.Rota.{Rota, refOn, enabled, hasUser, hasPermission}
+use Rattle.rota.specs.Rota as rota
+use Rattle.rota.specs.RotaWell.{RotaWell}
+use Rattle.table.specs.Table.{Entry, entryAt}
+use Rattle.table.specs.Table as table
+use Rattle.derivation.specs.Rewriting.{fields, usersAt, permissionsAt, derivedAt, active, keptAs, Kept, kept, rewrite}
+use Rattle.derivation.specs.Masks.{minuteOf, maskOf, keptIn}
+use Rattle.derivation.specs.Untimed.{Untimed, countOf, Rival}
+use Rattle.derivation.specs.Meaning.{Acting, EnabledFor, MeansAt}
+use Rattle.derivation.proofs.ConstancyLaws.{alike-enabled, alike-user, alike-permission, alike-users, alike-permissions, alike-active}
+use Rattle.derivation.proofs.FieldLaws.{field-alike, field-find, field-unique, field-count}
+use Rattle.derivation.proofs.KeptLaws.{kept-closed}
+use Rattle.derivation.proofs.MaskLaws.{mask-kept}
+use Rattle.derivation.proofs.MeaningLaws.{Active, active-in, active-out, Found, complete, of-active, of-is, of-place, through-same, answer-same}
+use Rattle.derivation.proofs.FewestLaws.{no-fewer}
+use Rattle.derivation.proofs.WorkedField.{example, field, field-in, not-kept, not-among}
+
+-- two minutes at which all hours judge alike, and so all that a role has
+pub record SameAt (ρ : Rota) (s t : ℕ) : Type 0 where
+  pub hours-same : (h : HoursRef) → refOn ρ h s ≡ refOn ρ h t
+  pub enabled-same : (r : ℕ) → enabled ρ r s ≡ enabled ρ r t
+  pub user-same : (u r : ℕ) → hasUser ρ u r s ≡ hasUser ρ u r t
+  pub permission-same : (p r : ℕ) → hasPermission ρ p r s ≡ hasPermission ρ p r t
+  pub users-same : (r : ℕ) → usersAt ρ r s ≡ usersAt ρ r t
+  pub permissions-same : (r : ℕ) → permissionsAt ρ r s ≡ permissionsAt ρ r t
+  pub active-same : (r : ℕ) → active ρ r s ≡ active ρ r t
+
+-- `active` of the rules says just this
+pub active-means : (ρ : Rota) (r t : ℕ) → (active ρ r t ≡ true) ↔ Acting ρ r t
+active-means ρ r t = (
+  (λ h. let a : Active ρ r t = active-out ρ r t h in (a .on, a .user, a .permission)),
+  (λ h. active-in ρ r t (record { on = h .0; user = h .1; permission = h .2 })),
+)
+
+module _ {ρ : Rota} (w : RotaWell ρ) where
+  -- within a field nothing changes
+  pub constancy : (f : Window) → List·Memᴰ f (fields ρ) → (s t : ℕ) → covers (ρ .cycle) f s ≡ true → covers (ρ .cycle) f t ≡ true → SameAt ρ s t
+  constancy f m s t a b =
+      let same = field-alike ρ w m s t a b in
+      record {
+        hours-same = same;
+        enabled-same = alike-enabled ρ s t same;
+        user-same = alike-user ρ s t same;
+        permission-same = alike-permission ρ s t same;
+        users-same = alike-users ρ s t same;
+        permissions-same = alike-permissions ρ s t same;
+        active-same = alike-active ρ s t same;
+      }
+
+  -- each minute lies in a field, and in no other
+  pub field-there : (t : ℕ) → t < E → (f : Window) × List·Memᴰ f (fields ρ) × (covers (ρ .cycle) f t ≡ true)
+  field-there = field-find ρ w
+
+  pub field-one : (f g : Window) (t : ℕ) → List·Memᴰ f (fields ρ) → List·Memᴰ g (fields ρ) → covers (ρ .cycle) f t ≡ true
+      → covers (ρ .cycle) g t ≡ true → f ≡ g
+  field-one = field-unique ρ w
+
+  -- so of the list of the fields, in which none is twice, just one covers it
+  pub field-once : (t : ℕ) → t < E → countOf (λ (f : Window). covers (ρ .cycle) f t) (fields ρ) ≡ 1
+  field-once = field-count ρ w
+
+  -- what a field is kept as for a role: "some minute of the era has its remainder in the cell" is settled by the first such minute
+  pub kept-by-first : (r : ℕ) (f : Window) → List·Memᴰ f (fields ρ)
+      → keptAs ρ r f
+      ≡ pick (ltb (minuteOf (ρ .cycle) f) (f .end))
+      (pick (active ρ r (minuteOf (ρ .cycle) f)) (some (derivedAt ρ r (minuteOf (ρ .cycle) f))) none) none
+  kept-by-first r f m = kept-closed ρ r f w m
+
+  -- and by the hours that hold in the field
+  pub kept-mask : (r : ℕ) → r < length (ρ .roles) → (f : Window) → List·Memᴰ f (fields ρ) → keptAs ρ r f ≡ keptIn ρ r (maskOf ρ f)
+  kept-mask = mask-kept ρ w
+
+  -- the table has at each minute, of each role, the derived role that the role is then
+  pub means : (r t : ℕ) → r < length (ρ .roles) → t < E → MeansAt ρ r t
+  means r t hr ht =
+      record {
+        at-most-one = λ i j a b. of-place ρ w i r t (a .on) (a .source) ∙ sym (of-place ρ w j r t (b .on) (b .source));
+        exactly = (
+          (λ z. active-means ρ r t .0 (of-active ρ w (z .0) r t (z .1 .on) (z .1 .source))),
+          (λ h.
+              let k : Found ρ w r t = complete ρ w r t hr ht (active-means ρ r t .1 h) in
+              (k .index, record { below = k .below; source = ap (λ (x : Entry). x .source) (k .is); on = k .on })),
+        );
+        users = λ i a. ap (λ (x : Entry). x .users) (sym (of-is ρ w i r t (a .on) (a .source)));
+        permissions = λ i a. ap (λ (x : Entry). x .permissions) (sym (of-is ρ w i r t (a .on) (a .source)));
+      }
+
+  -- the table answers as the rota does, through each role and in all
+  pub same-through : (u p t r : ℕ) → u < ρ .users → p < ρ .permissions → t < E → r < length (ρ .roles)
+      → table.through (rewrite ρ) u p t r ≡ rota.through ρ u p t r
+  same-through = through-same ρ w
+
+  pub same-answer : (u p t : ℕ) → u < ρ .users → p < ρ .permissions → t < E → table.answer (rewrite ρ) u p t ≡ rota.answer ρ u p t
+  same-answer = answer-same ρ w
+
+  -- no list of untimed derived roles that grants the same and enables one of r at a time has fewer of r
+  pub fewest : (r : ℕ) → r < length (ρ .roles) → (os : List Untimed) → Rival ρ r os
+      → countOf (λ (e : Entry). eqb (e .source) r) (rewrite ρ .entries) ≤ countOf (λ (o : Untimed). eqb (o .source) r) os
+  fewest = no-fewer ρ w
+
+-- with C 10, hours (3, 5, pair (0, 10)) and (0, E, pair (6, 2)): era 3 to 5 with cell 6 to 8 is a field, and no kept field
+pub worked-field : List·Memᴰ field (fields example) × (keptAs example 0 field ≡ none) × ((k : Kept) → List·Memᴰ k (kept example) → k .field ≡ field → ⊥)
+worked-field = (field-in, not-kept 0, not-among)

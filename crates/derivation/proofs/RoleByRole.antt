@@ -1,0 +1,139 @@
+-- The rewriting role by role, as a loop over the roles goes about it: the table's entries are those of the roles in order, and so are its rows,
+-- with each role's derived roles counted on from those of the roles before.
+--     entriesAt, rowsAt              of one role
+--     entriesFrom, rowsFrom          of n roles from one on
+--     entries-by-role, rows-by-role  they are the table's
+--     entries-next, rows-next        one role more; entries-none, rows-none where no role is left
+--     entriesAt-derived, entriesAt-length, rowsAt-length    what holds of one role's derived roles, and how many there are and how many rows
+-- Assumes nothing.
+use Rattle.ground.proofs.ListLaws.{all-append, all-map, all-with, all-both, map-same}
+use Prim.Native.Nat.{ℕ, zero, suc, _+_, _-_, _≤_, _<_}
+use mathlib.Core.Path.{_≡_, refl, sym, ap, ap₂, _∙_}
+use mathlib.Core.Bool.{true, false}
+use mathlib.Core.List.{List, [], _++_, map, map-append, append-nil, append-assoc}
+use native.Mathlib.Numerals.{add-one}
+use native.Mathlib.Omega.{arith}
+use lib.ListN.{length, length-append, length-map}
+use Rattle.ground.specs.Sequence.{All}
+use Rattle.rota.specs.Rota.{Rota}
+use Rattle.table.specs.Table.{Entry, Row}
+use Rattle.derivation.specs.Distinct.{addAll, placeOf}
+use Rattle.derivation.specs.Rewriting.{fields, Kept, keptOf, keptFrom, kept, same, entriesOf, rowOf, rewrite}
+use Rattle.derivation.proofs.TableDistinct.{there, addAll-append, addAll-skip, place-more, place-skip}
+use Rattle.derivation.proofs.TableKept.{entry, other-source, entries-there, entries-all, entries-length, DerivedOf, keptOf-entries, keptFrom-source}
+
+-- the derived roles of role r
+unfoldable pub entriesAt : Rota → ℕ → List Entry
+entriesAt ρ r = entriesOf (keptOf ρ r (fields ρ))
+
+-- a kept field's row, with the derived roles es counted on from base
+abbrev pub rowAt : ℕ → List Entry → Kept → Row
+rowAt base es k = record { derived = base + placeOf same (k .entry) es; window = k .field }
+
+-- the rows of role r
+unfoldable pub rowsAt : Rota → ℕ → ℕ → List Row
+rowsAt ρ r base = map (rowAt base (entriesAt ρ r)) (keptOf ρ r (fields ρ))
+
+-- n roles from r on
+unfoldable pub entriesFrom : Rota → ℕ → ℕ → List Entry
+entriesFrom ρ zero r = []
+entriesFrom ρ (suc n) r = entriesAt ρ r ++ entriesFrom ρ n (suc r)
+
+unfoldable pub rowsFrom : Rota → ℕ → ℕ → ℕ → List Row
+rowsFrom ρ zero r base = []
+rowsFrom ρ (suc n) r base = rowsAt ρ r base ++ rowsFrom ρ n (suc r) (base + length (entriesAt ρ r))
+
+module _ (ρ : Rota) where
+  -- the sources of one role's derived roles
+  pub entriesAt-derived : (r : ℕ) → All (DerivedOf ρ r) (entriesAt ρ r)
+  unfolding entriesAt
+  entriesAt-derived r = entries-all (DerivedOf ρ r) (keptOf ρ r (fields ρ)) (keptOf-entries ρ r (fields ρ))
+
+  -- none of the later roles' derived roles is among them
+  later-others : (n r : ℕ) → All (λ (e : Entry). there same e (entriesAt ρ r) ≡ false) (map entry (keptFrom ρ n (suc r)))
+  later-others n r =
+      all-map (λ (e : Entry). there same e (entriesAt ρ r) ≡ false) entry (keptFrom ρ n (suc r))
+      (all-with (λ k h. other-source (k .entry) (entriesAt ρ r) (all-with (λ o d e. omega (arith, d .source)) (entriesAt ρ r) (entriesAt-derived r)))
+      (keptFrom ρ n (suc r)) (keptFrom-source ρ n (suc r)))
+
+  entries-split : (n r : ℕ) → entriesOf (keptFrom ρ (suc n) r) ≡ entriesAt ρ r ++ entriesOf (keptFrom ρ n (suc r))
+  unfolding entriesAt entriesOf keptFrom
+  entries-split n r =
+      ap (addAll same []) (map-append entry (keptOf ρ r (fields ρ)) (keptFrom ρ n (suc r)))
+      ∙ addAll-append same [] (map entry (keptOf ρ r (fields ρ))) (map entry (keptFrom ρ n (suc r)))
+      ∙ ap (λ (l : List Entry). addAll same l (map entry (keptFrom ρ n (suc r)))) (sym (append-nil (entriesAt ρ r)))
+      ∙ addAll-skip same (entriesAt ρ r) [] (map entry (keptFrom ρ n (suc r))) (later-others n r)
+
+  entries-are : (n r : ℕ) → entriesOf (keptFrom ρ n r) ≡ entriesFrom ρ n r
+  unfolding entriesFrom
+  entries-are zero r = unfold entriesOf keptFrom addAll in refl
+  entries-are (suc n) r = entries-split n r ∙ ap (λ (l : List Entry). entriesAt ρ r ++ l) (entries-are n (suc r))
+
+  -- a kept field's place among all derived roles
+  row-here : (r : ℕ) (old rest : List Entry) → All (λ (o : Entry). o .source < r) old
+      → All (λ (k : Kept). rowOf (old ++ (entriesAt ρ r ++ rest)) k ≡ rowAt (length old) (entriesAt ρ r) k) (keptOf ρ r (fields ρ))
+  unfolding entriesAt
+  row-here r old rest h =
+      all-both here (keptOf ρ r (fields ρ)) (keptOf-entries ρ r (fields ρ)) (entries-there (keptOf ρ r (fields ρ)))
+    where
+      here : (k : Kept) → DerivedOf ρ r (k .entry) → there same (k .entry) (entriesAt ρ r) ≡ true
+          → rowOf (old ++ (entriesAt ρ r ++ rest)) k ≡ rowAt (length old) (entriesAt ρ r) k
+      here k d t =
+          let e : placeOf same (k .entry) (old ++ (entriesAt ρ r ++ rest)) ≡ length old + placeOf same (k .entry) (entriesAt ρ r) =
+          place-skip same (k .entry) old (entriesAt ρ r ++ rest) (other-source (k .entry) old (all-with (λ o l q. omega (arith, d .source)) old h))
+          ∙ ap (λ (i : ℕ). length old + i) (place-more same (k .entry) (entriesAt ρ r) rest t) in
+          λ i. record { derived = e i; window = k .field }
+
+  rows-are : (n r : ℕ) (old : List Entry) → All (λ (o : Entry). o .source < r) old
+      → map (rowOf (old ++ entriesFrom ρ n r)) (keptFrom ρ n r) ≡ rowsFrom ρ n r (length old)
+  unfolding rowsFrom rowsAt entriesFrom keptFrom
+  rows-are zero r old h = refl
+  rows-are (suc n) r old h =
+      let es = entriesAt ρ r in
+      let rest = entriesFrom ρ n (suc r) in
+      let ks = keptOf ρ r (fields ρ) in
+      let later = keptFrom ρ n (suc r) in
+      let below : All (λ (o : Entry). o .source < suc r) (old ++ es) =
+      all-append (λ (o : Entry). o .source < suc r) old es (all-with (λ o l. omega arith) old h) (all-with (λ o d. omega (arith, d .source)) es (entriesAt-derived r)) in
+      map-append (rowOf (old ++ (es ++ rest))) ks later
+      ∙ ap₂ _++_ (map-same (rowOf (old ++ (es ++ rest))) (rowAt (length old) es) ks (row-here r old rest h))
+      (ap (λ (l : List Entry). map (rowOf l) later) (sym (append-assoc old es rest)) ∙ rows-are n (suc r) (old ++ es) below
+      ∙ ap (rowsFrom ρ n (suc r)) (length-append old es))
+
+  -- the table's entries and rows
+  pub entries-by-role : rewrite ρ .entries ≡ entriesFrom ρ (length (ρ .roles)) 0
+  unfolding rewrite kept
+  entries-by-role = entries-are (length (ρ .roles)) 0
+
+  pub rows-by-role : rewrite ρ .rows ≡ rowsFrom ρ (length (ρ .roles)) 0 0
+  unfolding rewrite kept
+  rows-by-role =
+      ap (λ (es : List Entry). map (rowOf es) (keptFrom ρ (length (ρ .roles)) 0)) (entries-are (length (ρ .roles)) 0)
+      ∙ rows-are (length (ρ .roles)) 0 [] tt
+
+  -- one role more of `roles`, and none left: what a loop over the roles has still to do
+  pub entries-next : (roles r : ℕ) → r < roles → entriesFrom ρ (roles - r) r ≡ entriesAt ρ r ++ entriesFrom ρ (roles - (r + 1)) (r + 1)
+  unfolding entriesFrom
+  entries-next roles r h = let e : roles - r ≡ suc (roles - (r + 1)) = omega arith in rw (e, add-one r)
+
+  pub entries-none : (roles r : ℕ) → roles ≤ r → entriesFrom ρ (roles - r) r ≡ []
+  unfolding entriesFrom
+  entries-none roles r h = let e : roles - r ≡ 0 = omega arith in rw e
+
+  pub rows-next : (roles r base : ℕ) → r < roles
+      → rowsFrom ρ (roles - r) r base ≡ rowsAt ρ r base ++ rowsFrom ρ (roles - (r + 1)) (r + 1) (base + length (entriesAt ρ r))
+  unfolding rowsFrom
+  rows-next roles r base h = let e : roles - r ≡ suc (roles - (r + 1)) = omega arith in rw (e, add-one r)
+
+  pub rows-none : (roles r base : ℕ) → roles ≤ r → rowsFrom ρ (roles - r) r base ≡ []
+  unfolding rowsFrom
+  rows-none roles r base h = let e : roles - r ≡ 0 = omega arith in rw e
+
+  -- how many rows a role has does not depend on where its derived roles are counted from
+  pub rowsAt-length : (r base : ℕ) → length (rowsAt ρ r base) ≡ length (keptOf ρ r (fields ρ))
+  unfolding rowsAt
+  rowsAt-length r base = length-map (keptOf ρ r (fields ρ)) (rowAt base (entriesAt ρ r))
+
+  pub entriesAt-length : (r : ℕ) → length (entriesAt ρ r) ≤ length (keptOf ρ r (fields ρ))
+  unfolding entriesAt
+  entriesAt-length r = entries-length (keptOf ρ r (fields ρ))

@@ -1,0 +1,116 @@
+-- Laws of values that are sorted and without repeats, and of the gaps between neighbours.
+--     sort-all, sort-rising, sort-length     what holds of all values; each greater than the one before; how many
+--     gaps-fit, gaps-apart, gaps-length      each gap from a value to a greater one; each before the next; how many
+-- Assumes nothing.
+use Rattle.ground.proofs.ListLaws.{Pairwise}
+use Prim.Native.Nat.{ℕ, suc, _+_, _-_, _≤_, _<_}
+use mathlib.Core.Path.{_≡_, refl, ap}
+use mathlib.Core.Bool.{Bool, true, false}
+use mathlib.Core.List.{List, [], _∷_}
+use native.Mathlib.Omega.{arith}
+use borrow.Author.Tests.{ltb-true, ltb-false, eqb-true, eqb-false}
+use lib.Dec.{ltb, eqb}
+use lib.ListN.{length}
+use Rattle.ground.specs.Choice.{pick}
+use Rattle.ground.specs.Sequence.{All}
+use Rattle.derivation.specs.Cuts.{Gap, insertCut, sortInto, gapsFrom, gaps}
+
+-- each value is greater than the one before, the first than a
+abbrev pub Above : ℕ → List ℕ → Type 0
+Above a [] = Unit {0}
+Above a (x ∷ l) = (a < x) × Above x l
+
+abbrev pub Rising : List ℕ → Type 0
+Rising [] = Unit {0}
+Rising (x ∷ l) = Above x l
+
+-- less, equal, greater
+by-order : (P : List ℕ → Type 0) (x y : ℕ) (a b c : List ℕ) → (x < y → P a) → (x ≡ y → P b) → (y < x → P c)
+    → P (pick (ltb x y) a (pick (eqb x y) b c))
+by-order P x y a b c less equal greater = order (ltb x y) (eqb x y) refl refl
+  where
+    order : (s t : Bool) → ltb x y ≡ s → eqb x y ≡ t → P (pick s a (pick t b c))
+    order true t p q = less (ltb-true x y p)
+    order false true p q = equal (eqb-true x y q)
+    order false false p q = greater (omega (arith, ltb-false x y p, eqb-false x y q))
+
+insert-all : (P : ℕ → Type 0) (x : ℕ) (l : List ℕ) → P x → All P l → All P (insertCut x l)
+unfolding insertCut
+insert-all P x [] p q = (p, tt)
+insert-all P x (y ∷ l) p q =
+    by-order (All P) x y _ _ _ (λ h. (p, q)) (λ h. q) (λ h. (q .0, insert-all P x l p (q .1)))
+
+insert-above : (a x : ℕ) (l : List ℕ) → a < x → Above a l → Above a (insertCut x l)
+unfolding insertCut
+insert-above a x [] h s = (h, tt)
+insert-above a x (y ∷ l) h s =
+    by-order (Above a) x y _ _ _ (λ k. (h, (k, s .1))) (λ k. s) (λ k. (s .0, insert-above y x l k (s .1)))
+
+insert-rising : (x : ℕ) (l : List ℕ) → Rising l → Rising (insertCut x l)
+unfolding insertCut
+insert-rising x [] s = tt
+insert-rising x (y ∷ l) s = by-order Rising x y _ _ _ (λ k. (k, s)) (λ k. s) (λ k. insert-above y x l k s)
+
+insert-length : (x : ℕ) (l : List ℕ) → length (insertCut x l) ≤ suc (length l)
+unfolding insertCut
+insert-length x [] = omega arith
+insert-length x (y ∷ l) =
+    by-order (λ (q : List ℕ). length q ≤ suc (suc (length l))) x y _ _ _ (λ k. omega arith) (λ k. omega arith) (λ k. omega (arith, insert-length x l))
+
+pub sort-all : (P : ℕ → Type 0) (sorted l : List ℕ) → All P sorted → All P l → All P (sortInto sorted l)
+unfolding sortInto
+sort-all P sorted [] p q = p
+sort-all P sorted (x ∷ l) p q = sort-all P (insertCut x sorted) l (insert-all P x sorted (q .0) p) (q .1)
+
+pub sort-rising : (sorted l : List ℕ) → Rising sorted → Rising (sortInto sorted l)
+unfolding sortInto
+sort-rising sorted [] s = s
+sort-rising sorted (x ∷ l) s = sort-rising (insertCut x sorted) l (insert-rising x sorted s)
+
+pub sort-length : (sorted l : List ℕ) → length (sortInto sorted l) ≤ length sorted + length l
+unfolding sortInto
+sort-length sorted [] = omega arith
+sort-length sorted (x ∷ l) = omega (arith, sort-length (insertCut x sorted) l, insert-length x sorted)
+
+-- from a value to a greater one, which is at most `top`
+abbrev pub Fits : ℕ → Gap → Type 0
+Fits top g = (g .low < g .high) × (g .high ≤ top)
+
+-- gap g ends before gap h begins
+abbrev pub Apart : Gap → Gap → Type 0
+Apart g h = g .high ≤ h .low
+
+gapsFrom-fit : (top a : ℕ) (l : List ℕ) → Above a l → All (λ (x : ℕ). x ≤ top) l → All (Fits top) (gapsFrom a l)
+unfolding gapsFrom
+gapsFrom-fit top a [] s p = tt
+gapsFrom-fit top a (x ∷ l) s p = ((s .0, p .0), gapsFrom-fit top x l (s .1) (p .1))
+
+gapsFrom-low : (b a : ℕ) (l : List ℕ) → b ≤ a → Above a l → All (λ (g : Gap). b ≤ g .low) (gapsFrom a l)
+unfolding gapsFrom
+gapsFrom-low b a [] h s = tt
+gapsFrom-low b a (x ∷ l) h s = (h, gapsFrom-low b x l (omega (arith, s .0)) (s .1))
+
+gapsFrom-apart : (a : ℕ) (l : List ℕ) → Above a l → Pairwise Apart (gapsFrom a l)
+unfolding gapsFrom
+gapsFrom-apart a [] s = tt
+gapsFrom-apart a (x ∷ l) s = (gapsFrom-low x x l (omega arith) (s .1), gapsFrom-apart x l (s .1))
+
+gapsFrom-length : (a : ℕ) (l : List ℕ) → length (gapsFrom a l) ≡ length l
+unfolding gapsFrom
+gapsFrom-length a [] = refl
+gapsFrom-length a (x ∷ l) = ap suc (gapsFrom-length x l)
+
+pub gaps-fit : (top : ℕ) (l : List ℕ) → Rising l → All (λ (x : ℕ). x ≤ top) l → All (Fits top) (gaps l)
+unfolding gaps
+gaps-fit top [] s p = tt
+gaps-fit top (x ∷ l) s p = gapsFrom-fit top x l s (p .1)
+
+pub gaps-apart : (l : List ℕ) → Rising l → Pairwise Apart (gaps l)
+unfolding gaps
+gaps-apart [] s = tt
+gaps-apart (x ∷ l) s = gapsFrom-apart x l s
+
+pub gaps-length : (l : List ℕ) → length (gaps l) ≡ length l - 1
+unfolding gaps
+gaps-length [] = refl
+gaps-length (x ∷ l) = omega (arith, gapsFrom-length x l)

@@ -1,0 +1,140 @@
+-- The eras, the cells and the fields of a rota that keeps the layout: each in its range, in order, and how many there are.
+--     era-cuts-few, cell-cuts-few, eras-few, cells-few, fields-few    at most 66 and 514 values, 65 eras, 513 cells, 33,345 fields
+--     fields-well, fields-ordered                                     each field in its range, and each after those before it
+-- Assumes nothing.
+use Rattle.ground.proofs.ListLaws.{all-append, all-map, all-with, Pairwise, pairwise-append, pairwise-with, pairwise-map}
+use Prim.Native.Nat.{ℕ, _+_, _*_, _≤_, _<_}
+use mathlib.Core.Path.{_≡_, refl}
+use mathlib.Core.Logic.{_⊎_, inl, inr}
+use mathlib.Core.List.{List, [], _∷_, map}
+use native.Mathlib.Nat.{mul-le-mul-right, mul-le-mul-left}
+use native.Mathlib.Omega.{arith}
+use lib.ListN.{length, length-append, length-map}
+use Rattle.ground.specs.Sequence.{All}
+use Rattle.minutes.specs.Minutes.{E, Window}
+use Rattle.hours.specs.Hours.{Pair, Hours}
+use Rattle.hours.specs.HoursWell.{PairsWell, HoursWell, pairsIn}
+use Rattle.rota.specs.Rota.{Rota}
+use Rattle.rota.specs.RotaWell.{RotaWell}
+use Rattle.derivation.specs.Cuts.{Gap, gaps}
+use Rattle.derivation.specs.Rewriting.{hoursCuts, pairCuts, pairsCuts, eraCuts, cellCuts, fieldOf, fieldsOf, fields}
+use Rattle.derivation.proofs.TableCuts.{Rising, sort-all, sort-rising, sort-length, Fits, Apart, gaps-fit, gaps-apart, gaps-length}
+
+-- the values that are sorted: none past its limit, and how many
+hours-within : (c : ℕ) (hs : List Hours) → All (HoursWell c) hs → All (λ (x : ℕ). x ≤ E) (hoursCuts hs)
+unfolding hoursCuts
+hours-within c [] w = tt
+hours-within c (h ∷ hs) w = (omega (arith, w .0 .ordered, w .0 .ends), (w .0 .ends, hours-within c hs (w .1)))
+
+hours-count : (hs : List Hours) → length (hoursCuts hs) ≡ 2 * length hs
+unfolding hoursCuts
+hours-count [] = refl
+hours-count (h ∷ hs) = omega (arith, hours-count hs)
+
+pair-within : (c low : ℕ) (ps : List Pair) → PairsWell c low ps → All (λ (x : ℕ). x ≤ c) (pairCuts ps)
+unfolding pairCuts
+pair-within c low [] w = tt
+pair-within c low (p ∷ ps) w = (omega (arith, w .2), (w .2, pair-within c (p .offset + p .length + 1) ps (w .3)))
+
+pair-count : (ps : List Pair) → length (pairCuts ps) ≡ 2 * length ps
+unfolding pairCuts
+pair-count [] = refl
+pair-count (p ∷ ps) = omega (arith, pair-count ps)
+
+pairs-within : (c : ℕ) (hs : List Hours) → All (HoursWell c) hs → All (λ (x : ℕ). x ≤ c) (pairsCuts hs)
+unfolding pairsCuts
+pairs-within c [] w = tt
+pairs-within c (h ∷ hs) w = all-append (λ (x : ℕ). x ≤ c) (pairCuts (h .pairs)) (pairsCuts hs) (pair-within c 0 (h .pairs) (w .0 .pairs)) (pairs-within c hs (w .1))
+
+pairs-count : (hs : List Hours) → length (pairsCuts hs) ≡ 2 * pairsIn hs
+unfolding pairsCuts pairsIn
+pairs-count [] = refl
+pairs-count (h ∷ hs) = omega (arith, length-append (pairCuts (h .pairs)) (pairsCuts hs), pair-count (h .pairs), pairs-count hs)
+
+-- a field is not empty, ends by E and lies in the cycle
+pub record FieldWell (c : ℕ) (f : Window) : Type 0 where
+  pub ordered : f .begin < f .end
+  pub ends : f .end ≤ E
+  pub some-length : 0 < f .length
+  pub in-cycle : f .offset + f .length ≤ c
+
+-- field g comes after field f: later in the same era, or in a later era
+abbrev pub Before : Window → Window → Type 0
+Before f g = ((f .begin ≡ g .begin) × (f .end ≡ g .end) × (f .offset + f .length ≤ g .offset)) ⊎ (f .end ≤ g .begin)
+
+-- what holds of all fields, from what holds of all eras and of all cells
+fieldsOf-all : {P Q : Gap → Type 0} (R : Window → Type 0) → ((e c : Gap) → P e → Q c → R (fieldOf e c))
+    → (es cs : List Gap) → All P es → All Q cs → All R (fieldsOf es cs)
+unfolding fieldsOf
+fieldsOf-all R h [] cs p q = tt
+fieldsOf-all R h (e ∷ es) cs p q =
+    all-append R (map (fieldOf e) cs) (fieldsOf es cs) (all-map R (fieldOf e) cs (all-with (λ c k. h e c (p .0) k) cs q)) (fieldsOf-all R h es cs (p .1) q)
+
+fieldsOf-ordered : (top : ℕ) (es cs : List Gap) → Pairwise Apart es → Pairwise Apart cs → All (Fits top) cs → Pairwise Before (fieldsOf es cs)
+unfolding fieldsOf
+fieldsOf-ordered top [] cs p q fit = tt
+fieldsOf-ordered top (e ∷ es) cs p q fit =
+    pairwise-append Before (map (fieldOf e) cs) (fieldsOf es cs)
+    (pairwise-map Before (fieldOf e) cs (pairwise-with (λ x y a b h. inl (refl, refl, omega (arith, a .0))) cs fit q))
+    (fieldsOf-ordered top es cs (p .1) q fit)
+    (all-map (λ (f : Window). All (Before f) (fieldsOf es cs)) (fieldOf e) cs
+    (all-with (λ x a. fieldsOf-all (Before (fieldOf e x)) (λ d c h k. inr h) es cs (p .0) fit) cs fit))
+
+fieldsOf-length : (es cs : List Gap) → length (fieldsOf es cs) ≡ length es * length cs
+unfolding fieldsOf
+fieldsOf-length [] cs = omega arith
+fieldsOf-length (e ∷ es) cs =
+    omega (arith, length-append (map (fieldOf e) cs) (fieldsOf es cs), length-map cs (fieldOf e), fieldsOf-length es cs)
+
+module _ (ρ : Rota) (w : RotaWell ρ) where
+  pub era-cuts-few : length (eraCuts ρ) ≤ 66
+  unfolding eraCuts
+  era-cuts-few = omega (arith, sort-length [] (0 ∷ E ∷ hoursCuts (ρ .hours)), hours-count (ρ .hours), w .hours-most)
+
+  pub cell-cuts-few : length (cellCuts ρ) ≤ 514
+  unfolding cellCuts
+  cell-cuts-few = omega (arith, sort-length [] (0 ∷ ρ .cycle ∷ pairsCuts (ρ .hours)), pairs-count (ρ .hours), w .pairs-most)
+
+  pub eras-few : length (gaps (eraCuts ρ)) ≤ 65
+  eras-few = omega (arith, gaps-length (eraCuts ρ), era-cuts-few)
+
+  pub cells-few : length (gaps (cellCuts ρ)) ≤ 513
+  cells-few = omega (arith, gaps-length (cellCuts ρ), cell-cuts-few)
+
+  pub fields-few : length (fields ρ) ≤ 33345
+  unfolding fields
+  fields-few =
+      omega (
+        arith,
+        fieldsOf-length (gaps (eraCuts ρ)) (gaps (cellCuts ρ)),
+        mul-le-mul-right (length (gaps (cellCuts ρ))) eras-few,
+        mul-le-mul-left 65 cells-few,
+      )
+
+  eras-rise : Rising (eraCuts ρ)
+  unfolding eraCuts
+  eras-rise = sort-rising [] _ tt
+
+  cells-rise : Rising (cellCuts ρ)
+  unfolding cellCuts
+  cells-rise = sort-rising [] _ tt
+
+  eras-fit : All (Fits E) (gaps (eraCuts ρ))
+  unfolding eraCuts
+  eras-fit = gaps-fit E _ eras-rise (sort-all (λ (x : ℕ). x ≤ E) [] _ tt (omega arith, (omega arith, hours-within (ρ .cycle) (ρ .hours) (w .hours))))
+
+  cells-fit : All (Fits (ρ .cycle)) (gaps (cellCuts ρ))
+  unfolding cellCuts
+  cells-fit = gaps-fit (ρ .cycle) _ cells-rise (sort-all (λ (x : ℕ). x ≤ ρ .cycle) [] _ tt (omega arith, (omega arith, pairs-within (ρ .cycle) (ρ .hours) (w .hours))))
+
+  pub fields-well : All (FieldWell (ρ .cycle)) (fields ρ)
+  unfolding fields
+  fields-well =
+      fieldsOf-all (FieldWell (ρ .cycle))
+      (λ e c p q. record { ordered = p .0; ends = p .1; some-length = omega (arith, q .0); in-cycle = omega (arith, q .0, q .1) })
+      (gaps (eraCuts ρ)) (gaps (cellCuts ρ)) eras-fit cells-fit
+
+  pub fields-ordered : Pairwise Before (fields ρ)
+  unfolding fields
+  fields-ordered =
+      fieldsOf-ordered (ρ .cycle) (gaps (eraCuts ρ)) (gaps (cellCuts ρ)) (gaps-apart (eraCuts ρ) eras-rise) (gaps-apart (cellCuts ρ) cells-rise) cells-fit

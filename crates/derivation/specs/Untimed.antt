@@ -1,0 +1,38 @@
+-- Any other table of untimed users and permissions (document 01, "Rewriting", its second paragraph).
+use Prim.Native.Nat.{ℕ, zero, suc, _≤_, _<_}
+use mathlib.Core.Path.{_≡_}
+use mathlib.Core.Bool.{Bool, true, false, _&&_}
+use mathlib.Core.List.{List, [], _∷_}
+use lib.Dec.{eqb}
+use Rattle.ground.specs.Choice.{pick}
+use Rattle.ground.specs.Search.{any}
+use Rattle.minutes.specs.Minutes.{E}
+use Rattle.rota.specs.Rota.{Rota}
+use Rattle.table.specs.Table.{through}
+use Rattle.derivation.specs.Rewriting.{rewrite}
+
+-- a derived role whose two sets never change, with any choice of the minutes at which it is enabled
+pub record Untimed : Type 0 where
+  pub source : ℕ
+  pub user : ℕ → Bool
+  pub permission : ℕ → Bool
+  pub on : ℕ → Bool
+
+-- it is a derived role of r, and enabled at t
+abbrev pub onFor : ℕ → ℕ → Untimed → Bool
+onFor r t o = eqb (o .source) r && o .on t
+
+-- at t the list grants for role r the pair of u and p
+unfoldable pub grants : List Untimed → ℕ → ℕ → ℕ → ℕ → Bool
+grants os r t u p = any (λ (o : Untimed). onFor r t o && o .user u && o .permission p) os
+
+-- how many elements of a list pass
+unfoldable pub countOf {ℓ} : {A : Type ℓ} → (A → Bool) → List A → ℕ
+countOf f [] = 0
+countOf f (x ∷ xs) = pick (f x) (suc (countOf f xs)) (countOf f xs)
+
+-- a list that grants for r the same pairs at each minute as the rewritten table (`through` says that a table grants a pair for a role), and
+-- enables at most one derived role of r at a time
+pub record Rival (ρ : Rota) (r : ℕ) (os : List Untimed) : Type 0 where
+  pub same-pairs : (t u p : ℕ) → t < E → u < ρ .users → p < ρ .permissions → grants os r t u p ≡ through (rewrite ρ) u p t r
+  pub one-at-a-time : (t : ℕ) → t < E → countOf (onFor r t) os ≤ 1

@@ -1,0 +1,50 @@
+-- One row at a minute: whether its window covers the minute, whether its entry grants, and which users it has.
+-- Assumes nothing.
+use Prim.Native.Nat.{ℕ, _+_, _*_, _%_}
+use mathlib.Core.Path.{_≡_, refl, sym, _∙_, ap}
+use mathlib.Core.List.{List}
+use mathlib.Core.Bool.{Bool, true, false, _&&_}
+use Rattle.endian.specs.Numbers.{u32At, u64At}
+use Rattle.bitset.specs.Sets.{has}
+use Rattle.minutes.specs.Minutes.{Window, within, inPhase, covers}
+use Rattle.table.specs.TableBytes.{cycleOf, rowAtByte, entryOf}
+use Rattle.table.specs.Answers.{rowGrants, rowUsers}
+
+-- the row at a position has window w, and d is whether minute t, of phase x, lies between its dates
+module _ (s : List ℕ) (at t x : ℕ) (w : Window) (d : Bool) (ew : w ≡ rowAtByte s at .window) (ex : x ≡ t % cycleOf s)
+    (ed : d ≡ within (w .begin) (w .end) t) where
+  dated : covers (cycleOf s) (rowAtByte s at .window) t ≡ (d && within (w .offset) (w .offset + w .length) x)
+  unfolding covers inPhase
+  dated = ap (λ (v : Window). covers (cycleOf s) v t) (sym ew) ∙ rw (ed, ex) refl
+
+  pub covers-in : d ≡ true → (b : Bool) → b ≡ within (w .offset) (w .offset + w .length) x → b ≡ covers (cycleOf s) (rowAtByte s at .window) t
+  covers-in h b eb = eb ∙ sym (dated ∙ ap (λ (a : Bool). a && within (w .offset) (w .offset + w .length) x) h)
+
+  pub covers-out : d ≡ false → false ≡ covers (cycleOf s) (rowAtByte s at .window) t
+  covers-out h = sym (dated ∙ ap (λ (a : Bool). a && within (w .offset) (w .offset + w .length) x) h)
+
+-- v is whether the row at a position covers t
+module _ (s : List ℕ) (at t : ℕ) (v : Bool) (ev : v ≡ covers (cycleOf s) (rowAtByte s at .window) t) where
+  pub users-out : v ≡ false → 0 ≡ rowUsers s t at
+  unfolding rowUsers
+  users-out h = rw (← ev, h) refl
+
+  pub grants-out : (u p : ℕ) → v ≡ false → false ≡ rowGrants s u p t at
+  unfolding rowGrants
+  grants-out u p h = rw (← ev, h) refl
+
+  -- it does: its entry begins at e and has the users x
+  module _ (h : v ≡ true) (e x : ℕ) (ee : e ≡ 16 + 17 * u32At s at) (ex : x ≡ u64At s (e + 1)) where
+    pub users-in : x ≡ rowUsers s t at
+    unfolding rowUsers entryOf
+    users-in = rw (← ev, h, ← ee) ex
+
+    -- a is whether it has user u
+    module _ (u p : ℕ) (a : Bool) (ea : a ≡ has x u) where
+      pub grants-no : a ≡ false → false ≡ rowGrants s u p t at
+      unfolding rowGrants entryOf
+      grants-no g = rw (← ev, h, ← ee, ← ex, ← ea, g) refl
+
+      pub grants-by : a ≡ true → (y : ℕ) (b : Bool) → y ≡ u64At s (e + 9) → b ≡ has y p → b ≡ rowGrants s u p t at
+      unfolding rowGrants entryOf
+      grants-by g y b ey eb = rw (← ev, h, ← ee, ← ex, ← ea, g, ← ey) eb

@@ -1,0 +1,143 @@
+-- Who holds a permission in an accepted table: the users of every row that covers the minute.
+--     yes-any, some-member                  a lowest number is there exactly when one passes; a member of a set that is not empty
+--     holders-are                           the set that is asked for, by the rows
+--     gather-none, gather-more, gather-all  the loop over the rows
+-- Assumes nothing.
+use Rattle.ground.proofs.BoolLaws.{and-yes, and-both, eq-ext}
+use Prim.Native.Nat.{ℕ, zero, suc, _+_, _*_, _^_, _≤_, _<_}
+use mathlib.Core.Path.{_≡_, refl, sym, _∙_, ap, ap₂}
+use mathlib.Core.List.{List}
+use mathlib.Core.Option.{Option, none, some}
+use mathlib.Core.Bool.{Bool, true, false, _&&_, _||_}
+use native.Mathlib.Nat.{lt-of-lt-of-le}
+use native.Mathlib.Omega.{arith}
+use lib.Dec.{ltb}
+use lib.Pow.{pow-pos, pow-mono}
+use borrow.Author.Tests.{ltb-false}
+use Rattle.ground.specs.Choice.{pick}
+use Rattle.ground.specs.Search.{anyBelow, firstOf, lowestBelow}
+use Rattle.ground.proofs.SearchLaws.{any-none, any-stop, any-turn, any-out, any-no, any-none-of}
+use Rattle.bitset.specs.Sets.{has, setOf, union}
+use Rattle.bitset.proofs.SetLaws.{has-none, has-past, has-below, has-setOf, setOf-lt, setOf-has, setOf-same, ext}
+use Rattle.policy.specs.Policy.{isYes, holdsAny, holdersAt}
+use Rattle.table.specs.Table.{answer, policyOf}
+use Rattle.table.specs.TableBytes.{usersOf, rowsOf, rowOf, tableOf}
+use Rattle.table.specs.TableRefusals.{sourceOf}
+use Rattle.table.specs.Answers.{Opened, rowUsers}
+use Rattle.table.specs.declared.Counts.{Counts}
+use Rattle.table.proofs.HeaderLaws.{counts-are}
+use Rattle.table.proofs.TableFine.{TableFine, table-fine}
+use Rattle.table.proofs.AnswerLaws.{rowPlace, covering, owned, grant-parts, grant-of, grant-through, through-grant}
+
+yes-first : (o q : Option ℕ) → isYes (firstOf o q) ≡ (isYes o || isYes q)
+unfolding firstOf
+yes-first none q = refl
+yes-first (some k) q = refl
+
+yes-pick : (b : Bool) (k : ℕ) → isYes (pick b (some k) none) ≡ b
+yes-pick true k = refl
+yes-pick false k = refl
+
+pub yes-any : (n : ℕ) (f : ℕ → Bool) → isYes (lowestBelow n f) ≡ anyBelow n f
+unfolding lowestBelow anyBelow
+yes-any zero f = refl
+yes-any (suc n) f = yes-first _ _ ∙ ap₂ _||_ (yes-any n f) (yes-pick (f n) n)
+
+-- a set that is not empty has a member
+pub some-member : (k x : ℕ) → 0 < x → x < 2 ^ k → anyBelow k (has x) ≡ true
+some-member k x p h = go (anyBelow k (has x)) refl
+  where
+    go : (b : Bool) → anyBelow k (has x) ≡ b → b ≡ true
+    go true e = refl
+    go false e =
+        let z : x ≡ 0 = ext k x 0 h (pow-pos k) (λ i l. any-no _ _ e i l ∙ sym (has-none i)) in
+        absurd (omega arith)
+
+-- user u is among the users of row i, which covers t
+abbrev pub rowHas : List ℕ → ℕ → ℕ → ℕ → Bool
+rowHas s t u i = has (rowUsers s t (rowPlace s i)) u
+
+pick-has : (c : Bool) (x u : ℕ) → has (pick c x 0) u ≡ (c && has x u)
+pick-has true x u = refl
+pick-has false x u = has-none u
+
+module _ (s : List ℕ) (f : TableFine s) (t : ℕ) where
+  row-has : (u i : ℕ) → rowHas s t u i ≡ (covering s t i && has (owned s i .users) u)
+  unfolding rowUsers rowOf
+  row-has u i = pick-has (covering s t i) (owned s i .users) u
+
+  users-small : (i : ℕ) → i < rowsOf s → rowUsers s t (rowPlace s i) < 2 ^ usersOf s
+  unfolding rowUsers rowOf
+  users-small i l = go (covering s t i) (f .entries _ (f .rows i l .alone .derived) .users-below)
+    where
+      go : (c : Bool) {x : ℕ} → x < 2 ^ usersOf s → pick c x 0 < 2 ^ usersOf s
+      go true h = h
+      go false h = pow-pos (usersOf s)
+
+  holds-row : (u : ℕ) → holdsAny (policyOf (tableOf s)) t u ≡ true → anyBelow (rowsOf s) (rowHas s t u) ≡ true
+  unfolding holdsAny answer
+  holds-row u h =
+      let p = any-out _ _ h in
+      let r = any-out _ _ (sym (yes-any _ _) ∙ p .2) in
+      let k = through-grant s f u (p .0) t (r .0) (r .2) in
+      let g = grant-parts s u (p .0) t (k .row) (k .granted) in
+      any-stop _ _ (k .row) (k .below) (row-has u (k .row) ∙ and-both (covering s t (k .row)) (has (owned s (k .row) .users) u) (g .0) (g .1))
+
+  row-holds : (u : ℕ) → anyBelow (rowsOf s) (rowHas s t u) ≡ true → holdsAny (policyOf (tableOf s)) t u ≡ true
+  unfolding holdsAny answer tableOf
+  row-holds u h =
+      let w = any-out _ _ h in
+      let k = w .0 in
+      let c = and-yes (covering s t k) (has (owned s k .users) u) (sym (row-has u k) ∙ w .2) in
+      let e = f .entries _ (f .rows k (w .1) .alone .derived) in
+      let p = any-out _ _ (some-member _ _ (e .some-permission) (e .permissions-below)) in
+      let g = grant-of s u (p .0) t k (c .0) (c .1) (p .2) in
+      any-stop _ _ (p .0) (p .1) (yes-any _ _ ∙ any-stop _ _ (sourceOf s k) (e .source) (grant-through s f u (p .0) t k (w .1) g))
+
+  pub holds-is : (u : ℕ) → holdsAny (policyOf (tableOf s)) t u ≡ anyBelow (rowsOf s) (rowHas s t u)
+  holds-is u = eq-ext _ _ (holds-row u) (row-holds u)
+
+  past : (u : ℕ) → usersOf s ≤ u → anyBelow (rowsOf s) (rowHas s t u) ≡ false
+  past u m = any-none-of _ _ (λ i l. has-past (usersOf s) _ u (users-small i l) m)
+
+  pub holders-are : setOf 64 (λ u. anyBelow (rowsOf s) (rowHas s t u)) ≡ holdersAt (policyOf (tableOf s)) t
+  unfolding holdersAt tableOf
+  holders-are =
+      ext 64 _ _ (setOf-lt 64 _) (lt-of-lt-of-le (setOf-lt (usersOf s) _) (pow-mono (f .header .users-most)))
+      (λ u l. has-below 64 _ u l ∙ go u (ltb u (usersOf s)) refl ∙ sym (has-setOf (usersOf s) _ u))
+    where
+      go : (u : ℕ) (b : Bool) → ltb u (usersOf s) ≡ b → anyBelow (rowsOf s) (rowHas s t u) ≡ (ltb u (usersOf s) && holdsAny (policyOf (tableOf s)) t u)
+      go u true e = rw e (sym (holds-is u))
+      go u false e = rw e (past u (ltb-false u (usersOf s) e))
+
+-- a loop that gathers sets: `g j k` says that turn k puts j in, and turn k adds the set z
+module _ (g : ℕ → ℕ → Bool) where
+  pub gather-start : 0 ≡ setOf 64 (λ j. anyBelow 0 (g j))
+  gather-start = setOf-has 64 0 _ (pow-pos 64) (λ j l. has-none j ∙ sym (any-none (g j)))
+
+  pub gather-union : (k x y z : ℕ) → x ≡ setOf 64 (λ j. anyBelow k (g j)) → ((j : ℕ) → j < 64 → g j k ≡ has z j) → y ≡ union x z
+      → y ≡ setOf 64 (λ j. anyBelow (k + 1) (g j))
+  unfolding union
+  gather-union k x y z ex h ey =
+      ey
+      ∙ setOf-same 64 _ _ (λ j l. ap₂ _||_ (ap (λ (m : ℕ). has m j) ex ∙ has-below 64 _ j l) (sym (h j l)) ∙ sym (any-turn (g j) k))
+
+-- the loop over the rows, which begin at `first`
+unfoldable pub gathered : List ℕ → ℕ → ℕ → ℕ → ℕ
+gathered s t first i = setOf 64 (λ u. anyBelow i (λ k. has (rowUsers s t (first + 16 * k)) u))
+
+module _ (s : List ℕ) (t first : ℕ) where
+  pub gather-none : 0 ≡ gathered s t first 0
+  unfolding gathered
+  gather-none = gather-start _
+
+  pub gather-more : (i x y z : ℕ) → x ≡ gathered s t first i → z ≡ rowUsers s t (first + 16 * i) → y ≡ union x z → y ≡ gathered s t first (i + 1)
+  unfolding gathered
+  gather-more i x y z ex ez ey = gather-union _ i x y z ex (λ u l. ap (λ (m : ℕ). has m u) (sym ez)) ey
+
+pub gather-all : (s : List ℕ) (n : Counts) → Opened s n → (t i x : ℕ) → i ≡ n .rows → x ≡ gathered s t (16 + 17 * n .derived) i
+    → x ≡ holdersAt (policyOf (tableOf s)) t
+unfolding gathered
+gather-all s n o t i x ei ex =
+    let e = counts-are s n (o .counts) in
+    rw (ei, e .derived, e .rows) at ex ∙ holders-are s (table-fine s (o .clear)) t

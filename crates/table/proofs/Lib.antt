@@ -1,0 +1,17 @@
+pub mod HeaderLaws
+pub mod EntryLaws
+pub mod RowLaws
+pub mod TableFine
+pub mod ReadLaws
+pub mod GrantLaws
+pub mod AnswerLaws
+pub mod HoldersLaws
+pub mod AskedLaws
+pub mod FollowsLaws
+pub mod FineLaws
+pub mod RowsLaws
+pub mod SpeltLaws
+pub mod ReadBackLaws
+pub mod WellLaws
+pub mod WidthLaws
+pub mod TableTheorems

@@ -1,0 +1,5 @@
+pub mod Table
+pub mod TableBytes
+pub mod TableRefusals
+pub mod TableWell
+pub mod Answers
