@@ -1,2 +1,3 @@
 pub mod MachineLaws
 pub mod Agreement
+pub mod Worked

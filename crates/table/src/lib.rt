@@ -280,7 +280,7 @@ fn row_grants(s: &[u8], at: usize, u: u32, p: u32, t: u32, x: u32) -> bool
 }
 
 // The answer of an accepted table: rows go by source role, so the first row that grants has the lowest.
-fn first_role(s: &[u8], n: Counts, u: u32, p: u32, t: u32) -> Answer
+pub fn first_role(s: &[u8], n: Counts, u: u32, p: u32, t: u32) -> Answer
     requires { ⌜ Opened (now s) n × (u < n .users) × (p < n .permissions) ⌝ }
     ensures { λ r. ⌜ answerGiven r ≡ given (answer (tableOf (now (s .entry))) u p t) ⌝ }
 {
@@ -329,7 +329,7 @@ fn row_users(s: &[u8], at: usize, t: u32, x: u32) -> u64
 }
 
 // The users of every row of an accepted table that covers minute t.
-fn gather(s: &[u8], n: Counts, t: u32) -> u64
+pub fn gather(s: &[u8], n: Counts, t: u32) -> u64
     requires { ⌜ Opened (now s) n ⌝ }
     ensures { λ r. ⌜ r ≡ holdersAt (policyOf (tableOf (now (s .entry)))) t ⌝ }
 {

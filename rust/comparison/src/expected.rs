@@ -5,8 +5,12 @@ use reference::hours::Hours;
 
 use crate::ffi::{Date, Found, Held, HoursJudged, Minute};
 
+#[cfg(feature = "rewriting")]
+pub mod rewriting;
 #[cfg(feature = "rota")]
 pub mod rota;
+#[cfg(feature = "service")]
+pub mod service;
 #[cfg(feature = "table")]
 pub mod table;
 

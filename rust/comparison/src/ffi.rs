@@ -3,8 +3,12 @@
 
 #![allow(unsafe_code)]
 
+#[cfg(feature = "rewriting")]
+pub mod rewriting;
 #[cfg(feature = "rota")]
 pub mod rota;
+#[cfg(feature = "service")]
+pub mod service;
 #[cfg(feature = "table")]
 pub mod table;
 

@@ -6,6 +6,7 @@
 #![deny(unsafe_code)]
 
 pub mod case;
+pub mod data;
 pub mod expected;
 pub mod ffi;
 pub mod generate;

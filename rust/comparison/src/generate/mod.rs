@@ -1,15 +1,22 @@
 //! Builders of inputs: well-formed rotas and tables of all sizes up to the limits,
 //! damaged bytes, and the minutes and numbers at which an answer may change.
 
+mod calls;
+mod fine;
 mod hours;
 mod rota;
 mod table;
+mod weekly;
 
+pub use calls::{Edges, call, state};
+pub use fine::{Sets, fine_rota};
 pub use hours::{hours, hours_fault, room};
 pub use rota::{
     EDGE_SIZES, LIMITS, Sizes, damaged_rota, edge_sizes, rota, rota_minute, rota_of, small_rota,
+    with_unused_hours,
 };
 pub use table::{damaged_table, huge_counts, small_table, table, table_minute};
+pub use weekly::weekly_rota;
 
 use reference::END;
 

@@ -120,6 +120,21 @@ pub fn small_rota(random: &mut Random) -> Rota {
     rota_of(random, &sizes)
 }
 
+/// The rota with one to three more hours records that nothing refers to, where there is room.
+pub fn with_unused_hours(random: &mut Random, rota: &Rota) -> Rota {
+    let mut rota = rota.clone();
+    let mut pairs: usize = rota.hours.iter().map(|hours| hours.pairs.len()).sum();
+    for _ in 0..random.between(1, 3) {
+        if rota.hours.len() < LIMITS.hours as usize && pairs < LIMITS.pairs as usize {
+            let most = room(rota.cycle).min(LIMITS.pairs - pairs as u32).min(4);
+            let more = random.between(1, most);
+            pairs += more as usize;
+            rota.hours.push(hours(random, rota.cycle, more));
+        }
+    }
+    rota
+}
+
 /// Sizes at the limits with one or more counts 0 or the cycle 1; `which` is a set of bits.
 pub fn edge_sizes(which: u32) -> Sizes {
     let zero = |bit: u32, value: u32| if which & (1 << bit) != 0 { 0 } else { value };

@@ -1,0 +1,121 @@
+-- What document 01 marks for proof under "Worked minutes", as one statement; and the table of its small rota S.
+-- Assumes nothing.
+use Prim.Native.Nat.{ℕ, _<_}
+use mathlib.Core.Path.{_≡_, refl, sym, ap, ap₂, _∙_}
+use mathlib.Core.Option.{none, some}
+use mathlib.Core.List.{List, [], _∷_, _++_, map, List·Memᴰ, List·Memᴰ·head, List·Memᴰ·tail}
+use native.Mathlib.Omega.{arith}
+use lib.ListN.{length}
+use Rattle.ground.specs.Judgement.{refuse, _orElse_, inTurn}
+use Rattle.ground.specs.Outcome.{refused, given, outcome}
+use Rattle.ground.specs.Search.{any, anyBelow, firstOf, lowestBelow, highestBelow, countBelow}
+use Rattle.ground.specs.Sequence.{listOf, All}
+use Rattle.endian.specs.Numbers.{u16At, u32At}
+use Rattle.bitset.specs.Sets.{has, setOf, insert, remove, difference, count}
+use Rattle.minutes.specs.Minutes.{E, Window, inPhase}
+use Rattle.calendar.specs.Calendar.{dateAt, minuteOf}
+use Rattle.calendar.specs.declared.Date.{Date}
+use Rattle.calendar.proofs.CalendarLaws.{leap-day, leap-day-date, last-minute-date}
+use Rattle.hours.specs.Hours.{holds, refHolds, refOf, dangling}
+use Rattle.hours.specs.HoursBytes.{recordAt, pairsBefore, hoursFrom}
+use Rattle.hours.specs.HoursRefusals.{earliest, pairJudged, hoursJudged, recordJudged}
+use Rattle.policy.specs.Policy.{holdsAny}
+use Rattle.rota.specs.Rota.{Rota, enabled, assigned, hasUser, hasPermission, through, answer, policyOf}
+use Rattle.rota.specs.RotaBytes.{rotaOf}
+use Rattle.rota.specs.RotaRefusals.{countsOver, headerJudged, roleJudged, rowBad, rowJudged, rotaJudged}
+use Rattle.rota.specs.RotaWell.{RotaWell}
+use Rattle.rota.proofs.RotaTheorems.{accepted-well}
+use Rattle.rota.proofs.Worked.{small, small-accepted, WorkedMinutes, worked-minutes}
+use Rattle.table.specs.Table.{Entry, Row}
+use Rattle.derivation.specs.Cuts.{insertCut, sortInto, gapsFrom, gaps}
+use Rattle.derivation.specs.Distinct.{addNew, addAll, placeOf}
+use Rattle.derivation.specs.Rewriting.{hoursCuts, pairCuts, pairsCuts, eraCuts, cellCuts, fieldsOf, fields, keptAs, Kept, kept, rewrite, sizeOf, rewriteJudged, Written, writtenOf, rewriteOutcome}
+use Rattle.derivation.specs.Masks.{firstIn, maskOf, slotOf, assignedIn, usersIn, permissionsIn, keptIn}
+use Rattle.derivation.proofs.RewritingTheorems.{kept-mask, worked-field}
+use Rattle.derivation.proofs.WorkedField.{example, field}
+use Rattle.derivation.proofs.RoleByRole.{entriesFrom, rowsFrom, entries-by-role, rows-by-role}
+use Rattle.derivation.proofs.RoleMarks.{derivedFrom, marksFrom, rowsMarked, Agree, agree-masks, role-entries, role-rows}
+use Rattle.service.specs.declared.Service.{Service}
+use Rattle.service.specs.Machine.{Call, advance, «open», closed, done, Step, state, fresh, staying, stateJudged, callJudged, given-by, left-by, stepBy, machineStep}
+
+-- opens every definition that an example computes through
+unfoldable opened : Unit {0}
+unfolding E inPhase any anyBelow firstOf lowestBelow countBelow listOf u16At u32At holds refHolds refOf dangling recordAt pairsBefore hoursFrom earliest pairJudged hoursJudged recordJudged refuse _orElse_ inTurn enabled assigned hasUser hasPermission through answer rotaOf countsOver headerJudged roleJudged rowBad rowJudged rotaJudged holdsAny has setOf insert remove difference count insertCut sortInto gapsFrom gaps addNew addAll placeOf hoursCuts pairCuts pairsCuts eraCuts cellCuts fieldsOf fields firstIn maskOf slotOf assignedIn usersIn permissionsIn keptIn derivedFrom marksFrom rowsMarked staying stateJudged callJudged given-by left-by stepBy machineStep
+opened = tt
+
+abbrev ρ : Rota
+ρ = rotaOf small
+
+well : RotaWell ρ
+well = accepted-well small (small-accepted .1)
+
+-- ---- the table of S
+
+each : (fs : List Window) → ((f : Window) → List·Memᴰ f fs → keptAs ρ 0 f ≡ keptIn ρ 0 (maskOf ρ f)) → All (λ (f : Window). keptAs ρ 0 f ≡ keptIn ρ 0 (maskOf ρ f)) fs
+each [] h = tt
+each (f ∷ fs) h = (h f (List·Memᴰ·head refl), each fs (λ g m. h g (List·Memᴰ·tail m)))
+
+one-role : 0 < length (ρ .roles)
+unfolding opened
+one-role = omega arith
+
+agree : Agree ρ 0 (fields ρ) (map (maskOf ρ) (fields ρ))
+agree = agree-masks ρ 0 (maskOf ρ) (fields ρ) (each (fields ρ) (λ f m. kept-mask well 0 one-role f m))
+
+abbrev entry : ℕ → ℕ → ℕ → Entry
+entry r u p = record { source = r; users = u; permissions = p }
+
+abbrev row : ℕ → ℕ → ℕ → ℕ → ℕ → Row
+row d b e o l = record { derived = d; window = record { begin = b; end = e; offset = o; length = l } }
+
+pub small-entries : rewrite ρ .entries ≡ entry 0 1 1 ∷ entry 0 3 1 ∷ entry 0 2 1 ∷ []
+unfolding opened entriesFrom
+small-entries = entries-by-role ρ ∙ ap (λ (l : List Entry). l ++ []) (role-entries ρ 0 (map (maskOf ρ) (fields ρ)) agree)
+
+pub small-rows : rewrite ρ .rows
+    ≡ row 0 0 10 0 2 ∷ row 0 0 10 2 2 ∷ row 0 0 10 6 1 ∷ row 0 0 10 7 1 ∷ row 0 10 20 0 2 ∷ row 1 10 20 2 2 ∷ row 2 10 20 4 2 ∷ row 1 10 20 6 1 ∷ row 0 10 20 7 1
+    ∷ row 2 20 40 2 2 ∷ row 2 20 40 4 2 ∷ row 2 20 40 6 1 ∷ []
+unfolding opened rowsFrom
+small-rows = rows-by-role ρ ∙ ap (λ (l : List Row). l ++ []) (role-rows ρ 0 (map (maskOf ρ) (fields ρ)) agree 0)
+
+small-size : sizeOf (rewrite ρ) ≡ 259
+unfolding sizeOf
+small-size = omega (arith, ap length small-entries, ap length small-rows)
+
+-- S needs 259 bytes, and 258 give 20
+pub small-needs : (rewriteJudged small 259 ≡ 0) × (rewriteJudged small 258 ≡ 20)
+unfolding rewriteJudged opened
+small-needs = (rw small-size refl, rw small-size refl)
+
+-- ---- the statement
+
+-- one call of the plain machine on S
+abbrev on-small : Service → Call → Step
+on-small = machineStep (policyOf ρ)
+
+pub record Worked : Type 0 where
+  pub minutes : WorkedMinutes
+  -- fresh on S: open 1 gives 43; open 0, advance 4 gives count 1
+  pub opens-1 : on-small fresh («open» 1) .outcome ≡ refused 43
+  pub opens-0 : on-small fresh («open» 0) ≡ record { outcome = given done; after = state 0 1 }
+  pub advances-4 : on-small (state 0 1) (advance 4) ≡ record { outcome = given (closed 1); after = state 4 0 }
+  -- C 10, hours (3, 5, pair (0, 10)) and (0, E, pair (6, 2)): era 3 to 5 keeps no field with cell 6 to 8
+  pub era-3-to-5 : (keptAs example 0 field ≡ none) × ((k : Kept) → List·Memᴰ k (kept example) → k .field ≡ field → ⊥)
+  -- 29 February 2004, 00:00, is minute 1,661,760, a Sunday; the last minute is a Sunday
+  pub leap-day-is : minuteOf 2004 2 29 0 0 ≡ given 1661760
+  pub leap-day-sunday : dateAt 1661760 .weekday ≡ 6
+  pub last-sunday : dateAt 210379679 .weekday ≡ 6
+
+pub worked : Worked
+unfolding opened
+worked =
+    record {
+      minutes = worked-minutes;
+      opens-1 = refl;
+      opens-0 = refl;
+      advances-4 = refl;
+      era-3-to-5 = (worked-field .1, worked-field .2);
+      leap-day-is = leap-day;
+      leap-day-sunday = ap (λ (d : Date). d .weekday) leap-day-date;
+      last-sunday = ap (λ (d : Date). d .weekday) last-minute-date;
+    }

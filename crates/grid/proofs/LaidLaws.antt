@@ -1,0 +1,258 @@
+-- The masks that the code stores are the masks of the fields, and the arrays hold all that `Laid` says.
+--     era-values, cell-values                the values cut at are at most E, and at most the cycle
+--     gaps-at, fields-are, fields-number     gaps and fields by index, and how many fields there are
+--     mask-is                                the mask of one field
+--     Written, written-..                    the masks of the eras passed are stored
+--     eras-cut, cells-cut, laid              the arrays of cuts, and all together
+-- Assumes nothing.
+use Prim.Native.Nat.{ℕ, zero, suc, _+_, _-_, _*_, _%_, _≤_, _<_}
+use mathlib.Core.Path.{_≡_, refl, sym, ap, ap₂, _∙_}
+use mathlib.Core.Bool.{_&&_}
+use mathlib.Core.Logic.{inr}
+use mathlib.Core.List.{List, [], _∷_, _++_, map, append-assoc, append-nil}
+use native.Mathlib.Nat.{not-suc-le-zero, le-antisymm, mul-le-mul-right, mul-le-mul-left}
+use native.Mathlib.Numerals.{add-one}
+use native.Mathlib.Omega.{arith}
+use lib.ListN.{length, getD, take, length-append, length-map}
+use Rattle.ground.specs.Choice.{pick}
+use Rattle.ground.specs.Sequence.{listOf, All}
+use Rattle.ground.proofs.SequenceLaws.{listOf-length, listOf-cons, get-listOf}
+use Rattle.bitset.specs.Sets.{setOf, insert, intersection}
+use Rattle.bitset.proofs.SetLaws.{setOf-same}
+use Rattle.minutes.specs.Minutes.{E}
+use Rattle.hours.specs.Hours.{Pair, Hours, holds, never}
+use Rattle.hours.specs.HoursBytes.{hoursFrom}
+use Rattle.hours.specs.HoursWell.{PairsWell, HoursWell}
+use Rattle.hours.proofs.RecordLaws.{all-at}
+use Rattle.rota.specs.Rota.{Rota}
+use Rattle.rota.specs.RotaBytes.{cycleOf, hoursOf, rotaOf}
+use Rattle.rota.specs.RotaRefusals.{rotaJudged}
+use Rattle.rota.specs.RotaWell.{RotaWell}
+use Rattle.rota.proofs.RotaFine.{rota-fine}
+use Rattle.rota.proofs.RotaTheorems.{accepted-well}
+use Rattle.derivation.specs.Cuts.{Gap, gapsFrom, gaps}
+use Rattle.derivation.specs.Rewriting.{hoursCuts, pairCuts, pairsCuts, eraCuts, cellCuts, fieldOf, fieldsOf, fields}
+use Rattle.derivation.specs.Masks.{firstIn, maskOf}
+use Rattle.grid.specs.Grid.{Added, datesHold, pairsHold, hoursNo, recordsThat, fieldMask, gapAt, InCells, maskIn, Cuts, Laid}
+use Rattle.grid.proofs.RecordLaws.{few-hours, hoursCuts-length, pairsCuts-length}
+use Rattle.grid.proofs.OrderLaws.{by-ltb, In, Apart, Upto, upto-append, cuts-apart, added-cuts}
+use Rattle.grid.proofs.FieldLaws.{first-ge, first-rem, holds-split, both-set}
+
+-- ---- the values
+dates-upto : (c : ℕ) (hs : List Hours) → All (HoursWell c) hs → Upto E (hoursCuts hs)
+unfolding hoursCuts
+dates-upto c [] w = tt
+dates-upto c (h ∷ hs) w = (omega (arith, w .0 .ordered, w .0 .ends), (w .0 .ends, dates-upto c hs (w .1)))
+
+pairs-upto : (c low : ℕ) (ps : List Pair) → PairsWell c low ps → Upto c (pairCuts ps)
+unfolding pairCuts
+pairs-upto c low [] w = tt
+pairs-upto c low (p ∷ ps) w = (omega (arith, w .2), (w .2, pairs-upto c _ ps (w .3)))
+
+spans-upto : (c : ℕ) (hs : List Hours) → All (HoursWell c) hs → Upto c (pairsCuts hs)
+unfolding pairsCuts
+spans-upto c [] w = tt
+spans-upto c (h ∷ hs) w = upto-append c (pairCuts (h .pairs)) (pairsCuts hs) (pairs-upto c 0 (h .pairs) (w .0 .pairs)) (spans-upto c hs (w .1))
+
+pub era-values : (ρ : Rota) → RotaWell ρ → Upto E (0 ∷ E ∷ hoursCuts (ρ .hours))
+era-values ρ w = (omega arith, (omega arith, dates-upto (ρ .cycle) (ρ .hours) (w .hours)))
+
+pub cell-values : (ρ : Rota) → RotaWell ρ → Upto (ρ .cycle) (0 ∷ ρ .cycle ∷ pairsCuts (ρ .hours))
+cell-values ρ w = (omega arith, (omega arith, spans-upto (ρ .cycle) (ρ .hours) (w .hours)))
+
+-- ---- by index
+abbrev gapS : List ℕ → ℕ → Gap
+gapS l k = record { low = getD l k 0; high = getD l (suc k) 0 }
+
+gaps-suc : (n : ℕ) (a : List ℕ) → n < length a → gaps (take (suc n) a) ≡ listOf n (gapS a)
+unfolding gaps gapsFrom listOf
+gaps-suc n [] h = absurd (not-suc-le-zero h)
+gaps-suc zero (x ∷ a) h = refl
+gaps-suc (suc n) (x ∷ []) h = absurd (omega arith)
+gaps-suc (suc n) (x ∷ y ∷ a) h =
+    ap (λ (l : List Gap). record { low = x; high = y } ∷ l) (gaps-suc n (y ∷ a) (omega arith)) ∙ sym (listOf-cons n (gapS (x ∷ y ∷ a)))
+
+listOf-more {ℓ} : {A : Type ℓ} (n : ℕ) (f : ℕ → A) → listOf (n + 1) f ≡ listOf n f ++ (f n ∷ [])
+unfolding listOf
+listOf-more n f = rw (add-one n)
+
+pub listOf-same {ℓ} : {A : Type ℓ} (n : ℕ) (f g : ℕ → A) → ((k : ℕ) → k < n → f k ≡ g k) → listOf n f ≡ listOf n g
+unfolding listOf
+listOf-same zero f g h = refl
+listOf-same (suc n) f g h = ap₂ (λ l x. l ++ (x ∷ [])) (listOf-same n f g (λ k l. h k (omega arith))) (h n (omega arith))
+
+pub gaps-at : (l a : List ℕ) (n top : ℕ) → Cuts l a n top → gaps l ≡ listOf n (gapAt a)
+gaps-at l a n top c =
+    ap gaps (sym (c .are) ∙ ap (λ (k : ℕ). take k a) (add-one n)) ∙ gaps-suc n a (c .long)
+    ∙ listOf-same n (gapS a) (gapAt a) (λ k h. ap (λ (i : ℕ). record { low = getD a k 0; high = getD a i 0 }) (sym (add-one k)))
+
+map-snoc {ℓ ℓ'} : {A : Type ℓ} {B : Type ℓ'} (f : A → B) (l : List A) (x : A) → map f (l ++ (x ∷ [])) ≡ map f l ++ (f x ∷ [])
+map-snoc f [] x = refl
+map-snoc f (y ∷ l) x = ap (λ r. f y ∷ r) (map-snoc f l x)
+
+pub map-listOf {ℓ ℓ'} : {A : Type ℓ} {B : Type ℓ'} (f : A → B) (n : ℕ) (g : ℕ → A) → map f (listOf n g) ≡ listOf n (λ k. f (g k))
+unfolding listOf
+map-listOf f zero g = refl
+map-listOf f (suc n) g = map-snoc f (listOf n g) (g n) ∙ ap (λ l. l ++ (f (g n) ∷ [])) (map-listOf f n g)
+
+map-join {ℓ ℓ'} : {A : Type ℓ} {B : Type ℓ'} (f : A → B) (l m : List A) → map f (l ++ m) ≡ map f l ++ map f m
+map-join f [] m = refl
+map-join f (y ∷ l) m = ap (λ r. f y ∷ r) (map-join f l m)
+
+fields-snoc : (es cs : List Gap) (e : Gap) → fieldsOf (es ++ (e ∷ [])) cs ≡ fieldsOf es cs ++ map (fieldOf e) cs
+unfolding fieldsOf
+fields-snoc [] cs e = append-nil (map (fieldOf e) cs)
+fields-snoc (g ∷ es) cs e = ap (λ l. map (fieldOf g) cs ++ l) (fields-snoc es cs e) ∙ sym (append-assoc (map (fieldOf g) cs) (fieldsOf es cs) (map (fieldOf e) cs))
+
+fields-count : (es cs : List Gap) → length (fieldsOf es cs) ≡ length es * length cs
+unfolding fieldsOf
+fields-count [] cs = omega arith
+fields-count (e ∷ es) cs = omega (arith, length-append (map (fieldOf e) cs) (fieldsOf es cs), length-map cs (fieldOf e), fields-count es cs)
+
+-- ---- one field
+mask-by : (ρ : Rota) (dates pairs b e o f : ℕ) → o ≤ f
+    → (firstIn (ρ .cycle) b o f < e → setOf (length (ρ .hours)) (λ k. holds (ρ .cycle) (getD (ρ .hours) k never) (firstIn (ρ .cycle) b o f)) ≡ intersection dates pairs)
+    → fieldMask (ρ .cycle) dates pairs b e o f ≡ maskOf ρ (record { begin = b; end = e; offset = o; length = f - o })
+unfolding fieldMask maskOf
+mask-by ρ dates pairs b e o f l same =
+    let q : o + (f - o) ≡ f = omega arith in
+    rw q
+    (by-ltb
+    (λ z. pick z (insert (intersection dates pairs) 32) 0
+    ≡ pick z (insert (setOf (length (ρ .hours)) (λ k. holds (ρ .cycle) (getD (ρ .hours) k never) (firstIn (ρ .cycle) b o f))) 32) 0)
+    (firstIn (ρ .cycle) b o f) e (λ h. ap (λ x. insert x 32) (sym (same h))) (λ h. refl))
+
+-- ---- all fields
+-- the masks of i eras are stored, and those of the next go to `first`
+pub record Written (s eras : List ℕ) (ne nc i first : ℕ) (masks : List ℕ) : Type 0 where
+  pub below : i ≤ ne
+  pub place : first ≡ i * nc
+  pub stored : take first masks ≡ map (maskOf (rotaOf s)) (fieldsOf (listOf i (gapAt eras)) (gaps (cellCuts (rotaOf s))))
+
+pub written-none : (s eras : List ℕ) (ne nc : ℕ) (masks : List ℕ) → Written s eras ne nc 0 0 masks
+unfolding listOf fieldsOf
+written-none s eras ne nc masks = record { below = omega arith; place = omega arith; stored = refl }
+
+pub written-room : {s eras : List ℕ} {ne nc i first : ℕ} {masks : List ℕ} → Written s eras ne nc i first masks → i < ne → first + nc ≤ ne * nc
+written-room {nc = nc} w hi = omega (arith, w .place, mul-le-mul-right nc hi)
+
+module _ (s : List ℕ) (ok : rotaJudged s ≡ 0) where
+  -- at a minute t of a field no record's dates or pairs begin or end in the field, so the parts judged at its corner are the whole
+  holding-is : (b e o f t : ℕ) → b ≤ t → t < e → o ≤ t % cycleOf s → t % cycleOf s < f
+      → ((v : ℕ) → In v (hoursCuts (rotaOf s .hours)) → Apart b e v) → ((v : ℕ) → In v (pairsCuts (rotaOf s .hours)) → Apart o f v)
+      → setOf (length (rotaOf s .hours)) (λ k. holds (rotaOf s .cycle) (getD (rotaOf s .hours) k never) t)
+      ≡ intersection (recordsThat s (hoursOf s) (datesHold b)) (recordsThat s (hoursOf s) (pairsHold o))
+  unfolding rotaOf hoursFrom recordsThat
+  holding-is b e o f t from to low high p q =
+      ap (λ (n : ℕ). setOf n (λ k. holds (cycleOf s) (getD (listOf (hoursOf s) (hoursNo s)) k never) t)) (listOf-length (hoursOf s) (hoursNo s))
+      ∙ setOf-same (hoursOf s) _ _
+      (λ k l.
+      ap (λ (h : Hours). holds (cycleOf s) h t) (get-listOf (hoursOf s) (hoursNo s) never k l)
+      ∙ all-at (λ (h : Hours). holds (cycleOf s) h t ≡ (datesHold b h && pairsHold o h)) (hoursOf s) (hoursNo s)
+      (holds-split (cycleOf s) b e o f t from to low high (listOf (hoursOf s) (hoursNo s)) p q) k l)
+      ∙ sym (both-set (hoursOf s) (λ k. datesHold b (hoursNo s k)) (λ k. pairsHold o (hoursNo s k)) (omega (arith, few-hours s ok)))
+
+  module _ (eras cells : List ℕ) (ne nc : ℕ) (ce : Cuts (eraCuts (rotaOf s)) eras ne E) (cc : Cuts (cellCuts (rotaOf s)) cells nc (cycleOf s)) where
+    pub mask-is : (i j : ℕ) → i < ne → j < nc
+        → fieldMask (cycleOf s) (recordsThat s (hoursOf s) (datesHold (getD eras i 0))) (recordsThat s (hoursOf s) (pairsHold (getD cells j 0)))
+        (getD eras i 0) (getD eras (i + 1) 0) (getD cells j 0) (getD cells (j + 1) 0)
+        ≡ maskOf (rotaOf s) (fieldOf (gapAt eras i) (gapAt cells j))
+    unfolding eraCuts cellCuts rotaOf
+    mask-is i j hi hj =
+        let b = getD eras i 0 in
+        let e = getD eras (i + 1) 0 in
+        let o = getD cells j 0 in
+        let f = getD cells (j + 1) 0 in
+        let pos : 0 < cycleOf s = rota-fine s ok .header .cycle-some in
+        let oe : o < f = cc .rise j hj in
+        let ec : f ≤ cycleOf s = cc .most (j + 1) (omega arith) in
+        let w = accepted-well s ok in
+        let rem = first-rem (cycleOf s) b o f pos oe ec in
+        mask-by (rotaOf s) _ _ b e o f (omega arith)
+        (λ h.
+        holding-is b e o f (firstIn (cycleOf s) b o f) (first-ge (cycleOf s) b o f pos oe ec) h (rem .0) (rem .1)
+        (λ v m. cuts-apart (0 ∷ E ∷ hoursCuts (rotaOf s .hours)) eras ne E (era-values (rotaOf s) w) (ce .long) (ce .are) i v hi (inr (inr m)))
+        (λ v m. cuts-apart (0 ∷ cycleOf s ∷ pairsCuts (rotaOf s .hours)) cells nc (cycleOf s) (cell-values (rotaOf s) w) (cc .long) (cc .are) j v hj (inr (inr m))))
+
+    -- the masks of one era
+    row-is : (i dates : ℕ) (pairs : List ℕ) → i < ne → dates ≡ recordsThat s (hoursOf s) (datesHold (getD eras i 0)) → InCells s (hoursOf s) cells nc pairs
+        → listOf nc (maskIn (cycleOf s) dates (getD eras i 0) (getD eras (i + 1) 0) cells pairs)
+        ≡ map (maskOf (rotaOf s)) (map (fieldOf (gapAt eras i)) (gaps (cellCuts (rotaOf s))))
+    unfolding maskIn
+    row-is i dates pairs hi ed in-cells =
+        listOf-same nc _ (λ j. maskOf (rotaOf s) (fieldOf (gapAt eras i) (gapAt cells j))) (λ j hj. rw (ed, in-cells .each j hj) (mask-is i j hi hj))
+        ∙ sym (map-listOf (maskOf (rotaOf s)) nc (λ j. fieldOf (gapAt eras i) (gapAt cells j)))
+        ∙ ap (map (maskOf (rotaOf s))) (sym (map-listOf (fieldOf (gapAt eras i)) nc (gapAt cells)) ∙ ap (map (fieldOf (gapAt eras i))) (sym (gaps-at _ cells nc _ cc)))
+
+    module _ {i first : ℕ} {masks : List ℕ} (w : Written s eras ne nc i first masks) where
+      pub written-more : {cycle h dates : ℕ} {pairs after : List ℕ} → i < ne → cycle ≡ cycleOf s → h ≡ hoursOf s → dates ≡ recordsThat s h (datesHold (getD eras i 0))
+          → InCells s h cells nc pairs
+          → take (first + nc) after ≡ take first masks ++ listOf nc (maskIn cycle dates (getD eras i 0) (getD eras (i + 1) 0) cells pairs)
+          → Written s eras ne nc (i + 1) (first + nc) after
+      written-more {cycle} {h} {dates} {pairs} {after} hi ec eh ed in-cells e =
+          record { below = omega arith; place = omega (arith, w .place); stored = stored }
+        where
+          cs : List Gap
+          cs = gaps (cellCuts (rotaOf s))
+
+          row : listOf nc (maskIn cycle dates (getD eras i 0) (getD eras (i + 1) 0) cells pairs)
+              ≡ map (maskOf (rotaOf s)) (map (fieldOf (gapAt eras i)) (gaps (cellCuts (rotaOf s))))
+          row = rw ec (row-is i dates pairs hi (rw eh at ed) (rw eh at in-cells))
+
+          stored : take (first + nc) after ≡ map (maskOf (rotaOf s)) (fieldsOf (listOf (i + 1) (gapAt eras)) (gaps (cellCuts (rotaOf s))))
+          stored =
+              e ∙ ap₂ (λ (x y : List ℕ). x ++ y) (w .stored) row
+              ∙ sym (map-join (maskOf (rotaOf s)) (fieldsOf (listOf i (gapAt eras)) cs) (map (fieldOf (gapAt eras i)) cs))
+              ∙ ap (map (maskOf (rotaOf s)))
+              (sym (fields-snoc (listOf i (gapAt eras)) cs (gapAt eras i)) ∙ ap (λ (es : List Gap). fieldsOf es cs) (sym (listOf-more i (gapAt eras))))
+
+      pub written-all : ne ≤ i → take (ne * nc) masks ≡ map (maskOf (rotaOf s)) (fields (rotaOf s))
+      unfolding fields
+      written-all l =
+          let q : i ≡ ne = le-antisymm (w .below) l in
+          let p : ne * nc ≡ first = omega (arith, w .place, ap (λ (k : ℕ). k * nc) q) in
+          ap (λ (k : ℕ). take k masks) p ∙ w .stored
+          ∙ ap (λ (es : List Gap). map (maskOf (rotaOf s)) (fieldsOf es (gaps (cellCuts (rotaOf s)))))
+          (ap (λ (k : ℕ). listOf k (gapAt eras)) q ∙ sym (gaps-at _ eras ne _ ce))
+
+    pub fields-are : fields (rotaOf s) ≡ fieldsOf (listOf ne (gapAt eras)) (listOf nc (gapAt cells))
+    unfolding fields
+    fields-are = ap₂ fieldsOf (gaps-at _ eras ne _ ce) (gaps-at _ cells nc _ cc)
+
+    pub fields-number : length (fields (rotaOf s)) ≡ ne * nc
+    fields-number =
+        ap length fields-are ∙ fields-count (listOf ne (gapAt eras)) (listOf nc (gapAt cells))
+        ∙ ap₂ _*_ (listOf-length ne (gapAt eras)) (listOf-length nc (gapAt cells))
+
+  -- what the functions that add the cuts leave
+  module _ {a b : List ℕ} {m : ℕ} where
+    pub eras-few : Added a 0 (0 ∷ E ∷ hoursCuts (rotaOf s .hours)) b m → m ≤ 66
+    eras-few p = omega (arith, p .most, hoursCuts-length (rotaOf s .hours), accepted-well s ok .hours-most)
+
+    pub eras-cut : Added a 0 (0 ∷ E ∷ hoursCuts (rotaOf s .hours)) b m → 66 ≤ length b → Cuts (eraCuts (rotaOf s)) b (m - 1) E
+    unfolding eraCuts
+    eras-cut p l = added-cuts E p (era-values (rotaOf s) (accepted-well s ok)) (omega arith) (omega (arith, eras-few p))
+
+    module _ {c : ℕ} (p : Added a 0 (0 ∷ c ∷ pairsCuts (rotaOf s .hours)) b m) where
+      pub cells-few : m ≤ 514
+      cells-few = omega (arith, p .most, pairsCuts-length (rotaOf s .hours), accepted-well s ok .pairs-most)
+
+      pub cells-cut : c ≡ cycleOf s → 514 ≤ length b → Cuts (cellCuts (rotaOf s)) b (m - 1) (cycleOf s)
+      unfolding cellCuts rotaOf
+      cells-cut e l = added-cuts (cycleOf s) (rw e at p) (cell-values (rotaOf s) (accepted-well s ok)) (omega arith) (omega (arith, cells-few))
+
+  pub laid : {eras cells masks : List ℕ} {ne nc : ℕ} → ne ≤ 65 → nc ≤ 513 → Cuts (eraCuts (rotaOf s)) eras ne E → Cuts (cellCuts (rotaOf s)) cells nc (cycleOf s)
+      → ne * nc ≤ length masks → take (ne * nc) masks ≡ map (maskOf (rotaOf s)) (fields (rotaOf s)) → Laid s eras cells masks ne nc
+  laid {eras} {cells} {masks} {ne} {nc} l k ce cc room e =
+      record {
+        few-eras = l;
+        few-cells = k;
+        era-cuts = ce;
+        cell-cuts = cc;
+        masks-are = e;
+        masks-long = room;
+        count = fields-number eras cells ne nc ce cc;
+      }
+
+pub product : (a b x y : ℕ) → a ≤ x → b ≤ y → a * b ≤ x * y
+product a b x y h k = omega (arith, mul-le-mul-right b h, mul-le-mul-left x k)

@@ -1,0 +1,6 @@
+pub mod InsertLaws
+pub mod RecordLaws
+pub mod OrderLaws
+pub mod FieldLaws
+pub mod MaskLaws
+pub mod LaidLaws

@@ -1,0 +1,90 @@
+-- The eras, the cells and the field masks of a rota's bytes, as the code lays them out in arrays.
+use Prim.Native.Nat.{ℕ, _+_, _*_, _≤_, _<_}
+use mathlib.Core.Path.{_≡_}
+use mathlib.Core.Bool.{Bool}
+use mathlib.Core.List.{List, _++_, map}
+use lib.Dec.{ltb}
+use lib.ListN.{length, getD, take, drop}
+use Rattle.ground.specs.Choice.{pick}
+use Rattle.ground.specs.Search.{any}
+use Rattle.bitset.specs.Sets.{setOf, insert, intersection}
+use Rattle.minutes.specs.Minutes.{E, within}
+use Rattle.hours.specs.Hours.{Pair, Hours}
+use Rattle.hours.specs.HoursBytes.{recordAt, hoursAt}
+use Rattle.rota.specs.RotaBytes.{headerLength, cycleOf, hoursOf, rotaOf}
+use Rattle.rota.specs.RotaRefusals.{rotaJudged}
+use Rattle.derivation.specs.Cuts.{Gap, insertCut, sortInto}
+use Rattle.derivation.specs.Rewriting.{eraCuts, cellCuts, fields}
+use Rattle.derivation.specs.Masks.{firstIn, maskOf}
+
+-- among the first n values of an array a, those before r are less than x, and the one at r is not
+pub record Placed (a : List ℕ) (n x r : ℕ) : Type 0 where
+  pub passed : insertCut x (take n a) ≡ take r a ++ insertCut x (drop r (take n a))
+  pub within : r ≤ n
+  pub met : r < n → x ≤ getD a r 0
+
+-- the first n values of an array a, with the values vs added in order, are the first m of b
+pub record Added (a : List ℕ) (n : ℕ) (vs b : List ℕ) (m : ℕ) : Type 0 where
+  pub sorted : take m b ≡ sortInto (take n a) vs
+  pub more : n ≤ m
+  pub most : m ≤ n + length vs
+  pub some : 0 < length vs → 0 < m
+  pub long : length b ≡ length a
+
+-- an hours record by its two parts: its dates at minute t, and its pairs at phase x
+unfoldable pub datesHold : ℕ → Hours → Bool
+datesHold t h = within (h .begin) (h .end) t
+
+unfoldable pub pairsHold : ℕ → Hours → Bool
+pairsHold x h = any (λ (p : Pair). within (p .offset) (p .offset + p .length) x) (h .pairs)
+
+-- record k of a rota's bytes, and the numbers of the first h records that pass
+abbrev pub hoursNo : List ℕ → ℕ → Hours
+hoursNo s k = hoursAt s (recordAt s headerLength k)
+
+unfoldable pub recordsThat : List ℕ → ℕ → (Hours → Bool) → ℕ
+recordsThat s h f = setOf h (λ k. f (hoursNo s k))
+
+-- the mask of the field with the era from b to e and the cell from o to f, by the records whose dates hold in the era and those whose pairs hold
+-- in the cell
+unfoldable pub fieldMask : ℕ → ℕ → ℕ → ℕ → ℕ → ℕ → ℕ → ℕ
+fieldMask c dates pairs b e o f = pick (ltb (firstIn c b o f) e) (insert (intersection dates pairs) 32) 0
+
+-- neighbours in an array
+abbrev pub gapAt : List ℕ → ℕ → Gap
+gapAt l k = record { low = getD l k 0; high = getD l (k + 1) 0 }
+
+-- for each of the first n cells, the records whose pairs hold in it
+pub record InCells (s : List ℕ) (h : ℕ) (cells : List ℕ) (n : ℕ) (pairs : List ℕ) : Type 0 where
+  pub each : (j : ℕ) → j < n → getD pairs j 0 ≡ recordsThat s h (pairsHold (getD cells j 0))
+
+-- the mask in cell j of the era from b to e
+unfoldable pub maskIn : ℕ → ℕ → ℕ → ℕ → List ℕ → List ℕ → ℕ → ℕ
+maskIn c dates b e cells pairs j = fieldMask c dates (getD pairs j 0) b e (getD cells j 0) (getD cells (j + 1) 0)
+
+-- the first n + 1 values of an array are the cuts l, in order and at most `top`
+pub record Cuts (l a : List ℕ) (n top : ℕ) : Type 0 where
+  pub are : take (n + 1) a ≡ l
+  pub long : n < length a
+  pub rise : (k : ℕ) → k < n → getD a k 0 < getD a (k + 1) 0
+  pub most : (k : ℕ) → k ≤ n → getD a k 0 ≤ top
+
+-- what the masks are made from: the cuts of an accepted rota, and for each cell the records whose pairs hold in it
+pub record Ready (s : List ℕ) (c h : ℕ) (eras : List ℕ) (ne : ℕ) (cells : List ℕ) (nc : ℕ) (pairs : List ℕ) : Type 0 where
+  pub accepted : rotaJudged s ≡ 0
+  pub cycle-is : c ≡ cycleOf s
+  pub hours-are : h ≡ hoursOf s
+  pub era-cuts : Cuts (eraCuts (rotaOf s)) eras ne E
+  pub cell-cuts : Cuts (cellCuts (rotaOf s)) cells nc (cycleOf s)
+  pub in-cells : InCells s h cells nc pairs
+  pub pairs-long : nc ≤ length pairs
+
+-- the cuts of ne eras and nc cells, and the mask of each field: eras, then cells
+pub record Laid (s eras cells masks : List ℕ) (ne nc : ℕ) : Type 0 where
+  pub few-eras : ne ≤ 65
+  pub few-cells : nc ≤ 513
+  pub era-cuts : Cuts (eraCuts (rotaOf s)) eras ne E
+  pub cell-cuts : Cuts (cellCuts (rotaOf s)) cells nc (cycleOf s)
+  pub masks-are : take (ne * nc) masks ≡ map (maskOf (rotaOf s)) (fields (rotaOf s))
+  pub masks-long : ne * nc ≤ length masks
+  pub count : length (fields (rotaOf s)) ≡ ne * nc

@@ -1,0 +1,41 @@
+//! Rewriting a rota: its whole table, made once, and then what each area gets.
+
+use reference::Refusal;
+use reference::rewriting;
+use reference::rota::Rota;
+
+use crate::ffi::rewriting::Rewritten;
+
+/// The table of a rota's bytes.
+pub struct Whole {
+    pub derived: u32,
+    pub rows: u32,
+    pub bytes: Vec<u8>,
+}
+
+pub fn whole(rota: &[u8]) -> Result<Whole, Refusal> {
+    let table = rewriting::table(&Rota::parse(rota)?);
+    let (derived, rows) = (table.derived.len() as u32, table.rows.len() as u32);
+    Ok(Whole { derived, rows, bytes: table.encode() })
+}
+
+/// The rota's refusal, or 20, or the table at the area's start; all other bytes stay.
+pub fn rewrite(whole: &Result<Whole, Refusal>, area: &mut [u8]) -> Rewritten {
+    let refused = |refusal| Rewritten { refusal, ..Rewritten::default() };
+    let whole = match whole {
+        Err(refusal) => return refused(*refusal),
+        Ok(whole) => whole,
+    };
+    match area.get_mut(..whole.bytes.len()) {
+        None => refused(20),
+        Some(place) => {
+            place.copy_from_slice(&whole.bytes);
+            Rewritten {
+                refusal: 0,
+                derived: whole.derived,
+                rows: whole.rows,
+                length: whole.bytes.len() as u64,
+            }
+        }
+    }
+}

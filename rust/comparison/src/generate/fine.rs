@@ -1,0 +1,77 @@
+//! Rotas whose hours cut as finely as their number allows: the largest tables.
+
+use reference::END;
+use reference::hours::{Hours, HoursRef, Pair};
+use reference::rota::{Rota, Row};
+
+use super::LIMITS;
+use crate::random::Random;
+
+/// What the roles have in the fields of a fine rota.
+#[derive(Clone, Copy, Debug, PartialEq, Eq)]
+pub enum Sets {
+    /// Each role has the same users and permissions always: one derived role for each.
+    Same,
+    /// Each role's users and permissions follow most of the hours: many thousand derived roles.
+    Many,
+}
+
+/// The numbers below `count`, shuffled.
+fn shuffled(random: &mut Random, count: u32) -> Vec<u32> {
+    let mut numbers: Vec<u32> = (0..count).collect();
+    for last in (1..count).rev() {
+        numbers.swap(last as usize, random.between(0, last) as usize);
+    }
+    numbers
+}
+
+/// A rota in which every begin and end cuts an era and every edge of a pair a cell:
+/// 2 × hours + 1 eras, all longer than the cycle, and 2 × hours × pairs + 1 cells.
+/// Each role keeps every field, so the table has a row for each role, era and cell.
+/// `pairs` are those of one record. With 32 hours of 8 pairs and 32 roles all is at its limit.
+pub fn fine_rota(random: &mut Random, hours: u32, pairs: u32, roles: u32, sets: Sets) -> Rota {
+    let cycle = LIMITS.cycle;
+    let era = END / (2 * hours + 1);
+    let cell = u32::from(cycle) / (2 * hours * pairs + 1);
+    let mut all_hours = vec![Hours { begin: 0, end: 0, pairs: Vec::new() }; hours as usize];
+    // All begin in one order and end in another, and likewise in each part of the cycle.
+    for (i, number) in (1..).zip(shuffled(random, hours)) {
+        all_hours[number as usize].begin = i * era;
+    }
+    for (i, number) in (1 + hours..).zip(shuffled(random, hours)) {
+        all_hours[number as usize].end = i * era;
+    }
+    for part in 0..pairs {
+        let first = 1 + 2 * hours * part;
+        for (i, number) in (first..).zip(shuffled(random, hours)) {
+            let offset = (i * cell) as u16;
+            all_hours[number as usize].pairs.push(Pair { offset, length: 0 });
+        }
+        for (i, number) in (first + hours..).zip(shuffled(random, hours)) {
+            let pair = &mut all_hours[number as usize].pairs[part as usize];
+            pair.length = (i * cell) as u16 - pair.offset;
+        }
+    }
+    // Each role has its share of the rows, the first of them always.
+    let rows = |from: u32| -> Vec<Row> {
+        let share = (LIMITS.user_rows / roles).min(16);
+        let row = |role: u32, i: u32| Row {
+            number: (4 * i + role % 4) as u8,
+            role: role as u8,
+            hours: match sets {
+                Sets::Many if i > 0 => HoursRef::Numbered(((from + i) % hours) as u8),
+                _ => HoursRef::Always,
+            },
+        };
+        (0..roles).flat_map(|role| (0..share).map(move |i| row(role, i))).collect()
+    };
+    Rota {
+        cycle,
+        hours: all_hours,
+        users: LIMITS.users as u8,
+        permissions: LIMITS.permissions as u8,
+        roles: vec![HoursRef::Always; roles as usize],
+        user_rows: rows(0),
+        permission_rows: rows(16),
+    }
+}
