@@ -5,7 +5,12 @@ use calendar::MinuteAnswer;
 use hours::HoursAnswer;
 use policy::Answer;
 use policy::Holders;
+use rewriting::Rewritten;
 use rota::RotaAnswer;
+use service::Advanced;
+use service::Asked;
+use service::Changed;
+use service::Service;
 use table::TableAnswer;
 
 // A number that was found, or nothing.
@@ -376,4 +381,116 @@ pub extern "C" fn probe_table_question(s: &[u8], u: u32, p: u32, t: u32) -> Answ
 #[no_mangle]
 pub extern "C" fn probe_table_holders(s: &[u8], t: u32) -> HolderSet {
     holders_out(table::holders(s, t))
+}
+
+#[repr(C)]
+pub struct RewrittenTable {
+    pub refusal: u32,
+    pub derived: u32,
+    pub rows: u32,
+    pub length: u64,
+}
+
+#[no_mangle]
+pub extern "C" fn probe_rewrite(s: &[u8], out: &mut [u8]) -> RewrittenTable {
+    match rewriting::rewrite(s, out) {
+        Rewritten::Wrote {
+            derived,
+            rows,
+            length,
+        } => RewrittenTable {
+            refusal: 0,
+            derived,
+            rows,
+            length: length as u64,
+        },
+        Rewritten::Refused(n) => RewrittenTable {
+            refusal: n as u32,
+            derived: 0,
+            rows: 0,
+            length: 0,
+        },
+    }
+}
+
+// What a call of the service gives, and the state after it.
+#[repr(C)]
+pub struct Stepped {
+    pub refusal: u32,
+    pub yes: u32,
+    pub value: u32,
+    pub now: u32,
+    pub open: u64,
+}
+
+fn step_out(refusal: u32, yes: u32, value: u32, after: Service) -> Stepped {
+    Stepped {
+        refusal,
+        yes,
+        value,
+        now: after.now,
+        open: after.open,
+    }
+}
+
+fn advance_out(a: Advanced) -> Stepped {
+    match a {
+        Advanced::Closed(n, after) => step_out(0, 0, n, after),
+        Advanced::Refused(n, after) => step_out(n as u32, 0, 0, after),
+    }
+}
+
+fn change_out(a: Changed) -> Stepped {
+    match a {
+        Changed::Done(after) => step_out(0, 0, 0, after),
+        Changed::Refused(n, after) => step_out(n as u32, 0, 0, after),
+    }
+}
+
+fn ask_out(a: Asked) -> Stepped {
+    match a {
+        Asked::Yes(r, after) => step_out(0, 1, r as u32, after),
+        Asked::No(after) => step_out(0, 0, 0, after),
+        Asked::Refused(n, after) => step_out(n as u32, 0, 0, after),
+    }
+}
+
+#[no_mangle]
+pub extern "C" fn probe_rota_advance(s: &[u8], now: u32, open: u64, m: u32) -> Stepped {
+    advance_out(service::rota_advance(s, Service { now, open }, m))
+}
+
+#[no_mangle]
+pub extern "C" fn probe_rota_open(s: &[u8], now: u32, open: u64, u: u32) -> Stepped {
+    change_out(service::rota_open(s, Service { now, open }, u))
+}
+
+#[no_mangle]
+pub extern "C" fn probe_rota_close(s: &[u8], now: u32, open: u64, u: u32) -> Stepped {
+    change_out(service::rota_close(s, Service { now, open }, u))
+}
+
+#[no_mangle]
+pub extern "C" fn probe_rota_ask(s: &[u8], now: u32, open: u64, u: u32, p: u32) -> Stepped {
+    ask_out(service::rota_ask(s, Service { now, open }, u, p))
+}
+
+#[no_mangle]
+pub extern "C" fn probe_table_advance(s: &[u8], now: u32, open: u64, m: u32) -> Stepped {
+    advance_out(service::table_advance(s, Service { now, open }, m))
+}
+
+#[no_mangle]
+pub extern "C" fn probe_table_open(s: &[u8], now: u32, open: u64, u: u32) -> Stepped {
+    change_out(service::table_open(s, Service { now, open }, u))
+}
+
+#[no_mangle]
+pub extern "C" fn probe_table_close(s: &[u8], now: u32, open: u64, u: u32) -> Stepped {
+    change_out(service::table_close(s, Service { now, open }, u))
+}
+
+#[no_mangle]
+pub extern "C" fn probe_table_ask(s: &[u8], now: u32, open: u64, u: u32, p: u32) -> Stepped {
+    ask_out(service::table_ask(s, Service { now, open }, u, p))
 }

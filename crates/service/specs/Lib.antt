@@ -1,2 +1,4 @@
 pub mod Machine
 pub mod Answers
+pub mod Core
+pub mod Lent

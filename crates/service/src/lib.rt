@@ -1,6 +1,24 @@
-// The service over a lent rota or a lent table: its state, and the four calls by value.
+// The service over a lent rota or a lent table: its state, the four calls by value, and the four on a lent record.
+ghost use mathlib.Core.Path.{_≡_};
+ghost use Prim.Native.Nat.{_≤_};
+ghost use Rattle.ground.specs.Judgement.{_orElse_};
+ghost use Rattle.policy.specs.Policy.{answerGiven};
+ghost use Rattle.rota.specs.Rota.{policyOf as rotaPolicy};
+ghost use Rattle.rota.specs.RotaBytes.{rotaOf};
+ghost use Rattle.rota.specs.RotaRefusals.{rotaJudged};
+ghost use Rattle.table.specs.Table.{policyOf as tablePolicy};
+ghost use Rattle.table.specs.TableBytes.{tableOf};
+ghost use Rattle.table.specs.TableRefusals.{tableJudged};
+ghost use Rattle.service.specs.Machine.{serviceStep, advance, «open», close, ask};
+ghost use Rattle.service.specs.Answers.{advancedStep, changedStep, askedStep};
+ghost use Rattle.service.specs.Core.{stateBy, advanceBy, openBy, closeBy, askBy, movedStep, openedStep, closedStep, answeredStep};
+ghost use Rattle.service.specs.Lent.{telling, leaving, steppedBy};
+use policy::Answer;
+use rota::LayoutAnswer;
+use table::TableAnswer;
 
 // Now, a minute, and the set of users whose sessions are open.
+#[repr(C)]
 pub struct Service {
     pub now: u32,
     pub open: u64,
@@ -23,4 +41,433 @@ pub enum Asked {
     Yes(u8, Service),
     No(Service),
     Refused(u8, Service),
+}
+
+// 40 where the state is not one of a policy of so many users, else 0.
+fn judge_state(users: u32, service: Service) -> u8
+    requires { ⌜ users ≤ 64 ⌝ }
+    ensures { λ r. ⌜ r ≡ stateBy users service ⌝ }
+{
+    if minutes::END <= service.now {
+        return 40;
+    }
+    if bitset::all_below(service.open, users) {
+        0
+    } else {
+        40
+    }
+}
+
+// The first refusal of an advance, after those of the bytes, else 0.
+fn judge_advance(users: u32, service: Service, m: u32) -> u8
+    requires { ⌜ users ≤ 64 ⌝ }
+    ensures { λ r. ⌜ r ≡ stateBy users service orElse advanceBy service m ⌝ }
+{
+    let bad = judge_state(users, service);
+    if bad != 0 {
+        return bad;
+    }
+    if minutes::END <= m {
+        return 33;
+    }
+    if m < service.now {
+        return 41;
+    }
+    0
+}
+
+// The first refusal of an open's own, else 0. The holders are those who hold a permission now.
+fn judge_open(users: u32, holders: u64, service: Service, u: u32) -> u8
+    requires { ⌜ users ≤ 64 ⌝ }
+    ensures { λ r. ⌜ r ≡ openBy users holders service u ⌝ }
+{
+    if users <= u {
+        return 34;
+    }
+    if bitset::contains(service.open, u) {
+        return 42;
+    }
+    if bitset::contains(holders, u) { 0 } else { 43 }
+}
+
+// The first refusal of a close, after those of the bytes, else 0.
+fn judge_close(users: u32, service: Service, u: u32) -> u8
+    requires { ⌜ users ≤ 64 ⌝ }
+    ensures { λ r. ⌜ r ≡ stateBy users service orElse closeBy users service u ⌝ }
+{
+    let bad = judge_state(users, service);
+    if bad != 0 {
+        return bad;
+    }
+    if users <= u {
+        return 34;
+    }
+    if bitset::contains(service.open, u) {
+        0
+    } else {
+        44
+    }
+}
+
+// The first refusal of an ask, after those of the bytes, else 0.
+fn judge_ask(users: u32, permissions: u32, service: Service, u: u32, p: u32) -> u8
+    requires { ⌜ users ≤ 64 ⌝ }
+    ensures { λ r. ⌜ r ≡ stateBy users service orElse askBy users permissions service u p ⌝ }
+{
+    let bad = judge_state(users, service);
+    if bad != 0 {
+        return bad;
+    }
+    if users <= u {
+        return 34;
+    }
+    if permissions <= p {
+        return 35;
+    }
+    if bitset::contains(service.open, u) {
+        0
+    } else {
+        44
+    }
+}
+
+// An advance that is not refused: those stay who hold a permission at m.
+fn moved(holders: u64, service: Service, m: u32) -> Advanced
+    ensures { λ r. ⌜ advancedStep r ≡ movedStep holders service m ⌝ }
+{
+    let stays = bitset::both(service.open, holders);
+    let closed = bitset::count_lost(service.open, stays);
+    Advanced::Closed(
+        closed,
+        Service {
+            now: m,
+            open: stays,
+        },
+    )
+}
+
+// An open, where the state is not refused.
+fn opened(users: u32, holders: u64, service: Service, u: u32) -> Changed
+    requires { ⌜ users ≤ 64 ⌝ }
+    ensures { λ r. ⌜ changedStep r ≡ openedStep users holders service u ⌝ }
+{
+    let bad = judge_open(users, holders, service, u);
+    if bad != 0 {
+        return Changed::Refused(bad, service);
+    }
+    Changed::Done(Service {
+        now: service.now,
+        open: bitset::with(service.open, u),
+    })
+}
+
+// A close.
+fn closed(users: u32, service: Service, u: u32) -> Changed
+    requires { ⌜ users ≤ 64 ⌝ }
+    ensures { λ r. ⌜ changedStep r ≡ closedStep users service u ⌝ }
+{
+    let bad = judge_close(users, service, u);
+    if bad != 0 {
+        return Changed::Refused(bad, service);
+    }
+    Changed::Done(Service {
+        now: service.now,
+        open: bitset::without(service.open, u),
+    })
+}
+
+// An ask that is not refused, by what the lent bytes answer.
+fn answered(answer: Answer, service: Service) -> Asked
+    ensures { λ r. ⌜ askedStep r ≡ answeredStep (answerGiven answer) service ⌝ }
+{
+    match answer {
+        Answer::Yes(r) => Asked::Yes(r, service),
+        Answer::No => Asked::No(service),
+        Answer::Refused(n) => Asked::Refused(n, service),
+    }
+}
+
+// The four calls on a lent rota.
+pub fn rota_advance(s: &[u8], service: Service, m: u32) -> Advanced
+    ensures { λ r. ⌜ advancedStep r ≡ serviceStep (rotaJudged (now (s .entry))) (rotaPolicy (rotaOf (now (s .entry)))) service (advance m) ⌝ }
+{
+    match rota::locate(s) {
+        LayoutAnswer::Refused(n) => Advanced::Refused(n, service),
+        LayoutAnswer::Accepted(l) => {
+            let n = l.counts;
+            let bad = judge_advance(n.users, service, m);
+            if bad != 0 {
+                return Advanced::Refused(bad, service);
+            }
+            moved(rota::holders_in(s, l, m), service, m)
+        }
+    }
+}
+
+pub fn rota_open(s: &[u8], service: Service, u: u32) -> Changed
+    ensures { λ r. ⌜ changedStep r ≡ serviceStep (rotaJudged (now (s .entry))) (rotaPolicy (rotaOf (now (s .entry)))) service («open» u) ⌝ }
+{
+    match rota::locate(s) {
+        LayoutAnswer::Refused(n) => Changed::Refused(n, service),
+        LayoutAnswer::Accepted(l) => {
+            let n = l.counts;
+            let bad = judge_state(n.users, service);
+            if bad != 0 {
+                return Changed::Refused(bad, service);
+            }
+            opened(n.users, rota::holders_in(s, l, service.now), service, u)
+        }
+    }
+}
+
+pub fn rota_close(s: &[u8], service: Service, u: u32) -> Changed
+    ensures { λ r. ⌜ changedStep r ≡ serviceStep (rotaJudged (now (s .entry))) (rotaPolicy (rotaOf (now (s .entry)))) service (close u) ⌝ }
+{
+    match rota::locate(s) {
+        LayoutAnswer::Refused(n) => Changed::Refused(n, service),
+        LayoutAnswer::Accepted(l) => {
+            let n = l.counts;
+            closed(n.users, service, u)
+        }
+    }
+}
+
+pub fn rota_ask(s: &[u8], service: Service, u: u32, p: u32) -> Asked
+    ensures { λ r. ⌜ askedStep r ≡ serviceStep (rotaJudged (now (s .entry))) (rotaPolicy (rotaOf (now (s .entry)))) service (ask u p) ⌝ }
+{
+    match rota::locate(s) {
+        LayoutAnswer::Refused(n) => Asked::Refused(n, service),
+        LayoutAnswer::Accepted(l) => {
+            let n = l.counts;
+            let bad = judge_ask(n.users, n.permissions, service, u, p);
+            if bad != 0 {
+                return Asked::Refused(bad, service);
+            }
+            answered(rota::answer_in(s, l, u, p, service.now), service)
+        }
+    }
+}
+
+// The four calls on a lent table.
+pub fn table_advance(s: &[u8], service: Service, m: u32) -> Advanced
+    ensures { λ r. ⌜ advancedStep r ≡ serviceStep (tableJudged (now (s .entry))) (tablePolicy (tableOf (now (s .entry)))) service (advance m) ⌝ }
+{
+    match table::read(s) {
+        TableAnswer::Refused(code) => Advanced::Refused(code, service),
+        TableAnswer::Accepted(n) => {
+            let bad = judge_advance(n.users, service, m);
+            if bad != 0 {
+                return Advanced::Refused(bad, service);
+            }
+            moved(table::gather(s, n, m), service, m)
+        }
+    }
+}
+
+pub fn table_open(s: &[u8], service: Service, u: u32) -> Changed
+    ensures { λ r. ⌜ changedStep r ≡ serviceStep (tableJudged (now (s .entry))) (tablePolicy (tableOf (now (s .entry)))) service («open» u) ⌝ }
+{
+    match table::read(s) {
+        TableAnswer::Refused(code) => Changed::Refused(code, service),
+        TableAnswer::Accepted(n) => {
+            let bad = judge_state(n.users, service);
+            if bad != 0 {
+                return Changed::Refused(bad, service);
+            }
+            opened(n.users, table::gather(s, n, service.now), service, u)
+        }
+    }
+}
+
+pub fn table_close(s: &[u8], service: Service, u: u32) -> Changed
+    ensures { λ r. ⌜ changedStep r ≡ serviceStep (tableJudged (now (s .entry))) (tablePolicy (tableOf (now (s .entry)))) service (close u) ⌝ }
+{
+    match table::read(s) {
+        TableAnswer::Refused(code) => Changed::Refused(code, service),
+        TableAnswer::Accepted(n) => closed(n.users, service, u),
+    }
+}
+
+pub fn table_ask(s: &[u8], service: Service, u: u32, p: u32) -> Asked
+    ensures { λ r. ⌜ askedStep r ≡ serviceStep (tableJudged (now (s .entry))) (tablePolicy (tableOf (now (s .entry)))) service (ask u p) ⌝ }
+{
+    match table::read(s) {
+        TableAnswer::Refused(code) => Asked::Refused(code, service),
+        TableAnswer::Accepted(n) => {
+            let bad = judge_ask(n.users, n.permissions, service, u, p);
+            if bad != 0 {
+                return Asked::Refused(bad, service);
+            }
+            answered(table::first_role(s, n, u, p, service.now), service)
+        }
+    }
+}
+
+// What a lent call tells: a refusal's number, else 0; 1 for yes, else 0; the count of an advance, the role of a yes, else 0.
+#[repr(C)]
+pub struct Told {
+    pub refusal: u32,
+    pub yes: u32,
+    pub value: u32,
+}
+
+// The state that a call leaves, and what it tells.
+pub struct Stepped {
+    pub service: Service,
+    pub told: Told,
+}
+
+fn tell(service: Service, refusal: u32, yes: u32, value: u32) -> Stepped
+    ensures { λ r. ⌜ r ≡ leaving service (telling refusal yes value) ⌝ }
+{
+    Stepped {
+        service: service,
+        told: Told {
+            refusal: refusal,
+            yes: yes,
+            value: value,
+        },
+    }
+}
+
+fn tell_advanced(a: Advanced) -> Stepped
+    ensures { λ r. ⌜ r ≡ steppedBy (advancedStep a) ⌝ }
+{
+    match a {
+        Advanced::Closed(n, service) => tell(service, 0, 0, n),
+        Advanced::Refused(n, service) => tell(service, n as u32, 0, 0),
+    }
+}
+
+fn tell_changed(a: Changed) -> Stepped
+    ensures { λ r. ⌜ r ≡ steppedBy (changedStep a) ⌝ }
+{
+    match a {
+        Changed::Done(service) => tell(service, 0, 0, 0),
+        Changed::Refused(n, service) => tell(service, n as u32, 0, 0),
+    }
+}
+
+fn tell_asked(a: Asked) -> Stepped
+    ensures { λ r. ⌜ r ≡ steppedBy (askedStep a) ⌝ }
+{
+    match a {
+        Asked::Yes(r, service) => tell(service, 0, 1, r as u32),
+        Asked::No(service) => tell(service, 0, 0, 0),
+        Asked::Refused(n, service) => tell(service, n as u32, 0, 0),
+    }
+}
+
+// The calls by value, their answers told in numbers.
+fn rota_advance_told(service: Service, s: &[u8], m: u32) -> Stepped
+    ensures { λ r. ⌜ leaving (r .service) (r .told) ≡ steppedBy (serviceStep (rotaJudged (now (s .entry))) (rotaPolicy (rotaOf (now (s .entry)))) service (advance m)) ⌝ }
+{
+    tell_advanced(rota_advance(s, service, m))
+}
+
+fn rota_open_told(service: Service, s: &[u8], u: u32) -> Stepped
+    ensures { λ r. ⌜ leaving (r .service) (r .told) ≡ steppedBy (serviceStep (rotaJudged (now (s .entry))) (rotaPolicy (rotaOf (now (s .entry)))) service («open» u)) ⌝ }
+{
+    tell_changed(rota_open(s, service, u))
+}
+
+fn rota_close_told(service: Service, s: &[u8], u: u32) -> Stepped
+    ensures { λ r. ⌜ leaving (r .service) (r .told) ≡ steppedBy (serviceStep (rotaJudged (now (s .entry))) (rotaPolicy (rotaOf (now (s .entry)))) service (close u)) ⌝ }
+{
+    tell_changed(rota_close(s, service, u))
+}
+
+fn rota_ask_told(service: Service, s: &[u8], u: u32, p: u32) -> Stepped
+    ensures { λ r. ⌜ leaving (r .service) (r .told) ≡ steppedBy (serviceStep (rotaJudged (now (s .entry))) (rotaPolicy (rotaOf (now (s .entry)))) service (ask u p)) ⌝ }
+{
+    tell_asked(rota_ask(s, service, u, p))
+}
+
+fn table_advance_told(service: Service, s: &[u8], m: u32) -> Stepped
+    ensures { λ r. ⌜ leaving (r .service) (r .told) ≡ steppedBy (serviceStep (tableJudged (now (s .entry))) (tablePolicy (tableOf (now (s .entry)))) service (advance m)) ⌝ }
+{
+    tell_advanced(table_advance(s, service, m))
+}
+
+fn table_open_told(service: Service, s: &[u8], u: u32) -> Stepped
+    ensures { λ r. ⌜ leaving (r .service) (r .told) ≡ steppedBy (serviceStep (tableJudged (now (s .entry))) (tablePolicy (tableOf (now (s .entry)))) service («open» u)) ⌝ }
+{
+    tell_changed(table_open(s, service, u))
+}
+
+fn table_close_told(service: Service, s: &[u8], u: u32) -> Stepped
+    ensures { λ r. ⌜ leaving (r .service) (r .told) ≡ steppedBy (serviceStep (tableJudged (now (s .entry))) (tablePolicy (tableOf (now (s .entry)))) service (close u)) ⌝ }
+{
+    tell_changed(table_close(s, service, u))
+}
+
+fn table_ask_told(service: Service, s: &[u8], u: u32, p: u32) -> Stepped
+    ensures { λ r. ⌜ leaving (r .service) (r .told) ≡ steppedBy (serviceStep (tableJudged (now (s .entry))) (tablePolicy (tableOf (now (s .entry)))) service (ask u p)) ⌝ }
+{
+    tell_asked(table_ask(s, service, u, p))
+}
+
+// The four calls on a lent record, with a rota and with a table.
+pub fn lent_rota_advance(service: &mut Service, s: &[u8], m: u32) -> Told
+    ensures { λ r. ⌜ leaving (now (service .exit)) r ≡ steppedBy (serviceStep (rotaJudged (now (s .entry))) (rotaPolicy (rotaOf (now (s .entry)))) (now (service .entry)) (advance m)) ⌝ }
+{
+    let r = rota_advance_told(*service, s, m);
+    *service = r.service;
+    r.told
+}
+
+pub fn lent_rota_open(service: &mut Service, s: &[u8], u: u32) -> Told
+    ensures { λ r. ⌜ leaving (now (service .exit)) r ≡ steppedBy (serviceStep (rotaJudged (now (s .entry))) (rotaPolicy (rotaOf (now (s .entry)))) (now (service .entry)) («open» u)) ⌝ }
+{
+    let r = rota_open_told(*service, s, u);
+    *service = r.service;
+    r.told
+}
+
+pub fn lent_rota_close(service: &mut Service, s: &[u8], u: u32) -> Told
+    ensures { λ r. ⌜ leaving (now (service .exit)) r ≡ steppedBy (serviceStep (rotaJudged (now (s .entry))) (rotaPolicy (rotaOf (now (s .entry)))) (now (service .entry)) (close u)) ⌝ }
+{
+    let r = rota_close_told(*service, s, u);
+    *service = r.service;
+    r.told
+}
+
+pub fn lent_rota_ask(service: &mut Service, s: &[u8], u: u32, p: u32) -> Told
+    ensures { λ r. ⌜ leaving (now (service .exit)) r ≡ steppedBy (serviceStep (rotaJudged (now (s .entry))) (rotaPolicy (rotaOf (now (s .entry)))) (now (service .entry)) (ask u p)) ⌝ }
+{
+    let r = rota_ask_told(*service, s, u, p);
+    *service = r.service;
+    r.told
+}
+
+pub fn lent_table_advance(service: &mut Service, s: &[u8], m: u32) -> Told
+    ensures { λ r. ⌜ leaving (now (service .exit)) r ≡ steppedBy (serviceStep (tableJudged (now (s .entry))) (tablePolicy (tableOf (now (s .entry)))) (now (service .entry)) (advance m)) ⌝ }
+{
+    let r = table_advance_told(*service, s, m);
+    *service = r.service;
+    r.told
+}
+
+pub fn lent_table_open(service: &mut Service, s: &[u8], u: u32) -> Told
+    ensures { λ r. ⌜ leaving (now (service .exit)) r ≡ steppedBy (serviceStep (tableJudged (now (s .entry))) (tablePolicy (tableOf (now (s .entry)))) (now (service .entry)) («open» u)) ⌝ }
+{
+    let r = table_open_told(*service, s, u);
+    *service = r.service;
+    r.told
+}
+
+pub fn lent_table_close(service: &mut Service, s: &[u8], u: u32) -> Told
+    ensures { λ r. ⌜ leaving (now (service .exit)) r ≡ steppedBy (serviceStep (tableJudged (now (s .entry))) (tablePolicy (tableOf (now (s .entry)))) (now (service .entry)) (close u)) ⌝ }
+{
+    let r = table_close_told(*service, s, u);
+    *service = r.service;
+    r.told
+}
+
+pub fn lent_table_ask(service: &mut Service, s: &[u8], u: u32, p: u32) -> Told
+    ensures { λ r. ⌜ leaving (now (service .exit)) r ≡ steppedBy (serviceStep (tableJudged (now (s .entry))) (tablePolicy (tableOf (now (s .entry)))) (now (service .entry)) (ask u p)) ⌝ }
+{
+    let r = table_ask_told(*service, s, u, p);
+    *service = r.service;
+    r.told
 }

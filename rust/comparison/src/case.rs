@@ -100,12 +100,33 @@ impl Tally {
         for (refusal, count) in self.counts.iter().enumerate().filter(|(_, count)| **count > 0) {
             line += &format!(" {refusal}: {count}");
         }
-        writeln!(std::io::stderr(), "{line}").expect("standard error is open");
-        // A single case, run again, reaches only its own.
-        if setting("SOFTLODE_CASE").is_none() {
+        print(&line);
+        if is_whole_run() {
             for refusal in refusals {
                 assert!(self.counts[refusal as usize] > 0, "{}: {refusal} not reached", self.name);
             }
         }
     }
+
+    /// The same for what else was counted.
+    pub fn also(&self, counts: &[(&str, u64)]) {
+        let listed: Vec<String> =
+            counts.iter().map(|(what, count)| format!("{what}: {count}")).collect();
+        print(&format!("{}: {}", self.name, listed.join(", ")));
+        if is_whole_run() {
+            for (what, count) in counts {
+                assert!(*count > 0, "{}: {what} not reached", self.name);
+            }
+        }
+    }
+}
+
+/// A single case, run again, reaches only its own.
+fn is_whole_run() -> bool {
+    setting("SOFTLODE_CASE").is_none()
+}
+
+/// A line past the test harness, which keeps what a passing test prints.
+pub fn print(line: &str) {
+    writeln!(std::io::stderr(), "{line}").expect("standard error is open");
 }

@@ -236,7 +236,7 @@ fn well_formed_rotas() {
         }
     });
     tally.reached([0, 33, 34, 35]);
-    assert!(yes > 0 && no > 0, "yes {yes} no {no}");
+    tally.also(&[("yes", yes), ("no", no)]);
 }
 
 /// Every user, permission and minute of a stretch, and the set of holders.

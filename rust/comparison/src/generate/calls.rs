@@ -72,24 +72,30 @@ impl Edges {
     /// A minute to advance to: mostly soon, at an edge or beside it.
     fn advance(&self, random: &mut Random, now: u32) -> u32 {
         let now = now.min(END);
+        let random_minute = random.below(END);
         let beside = |random: &mut Random, t: u32| match random.below(4) {
             0 => t.saturating_sub(1),
             1 => t + 1,
             _ => t,
         };
-        match random.below(40) {
-            0 => random.pick(&[END - 1, END, END + 1, u32::MAX]),
-            1 => random.below(END),
-            2 => now.saturating_sub(random.between(1, self.cycle)),
-            3 => random.pick(&self.spans),
-            4..=7 => now,
-            8..=11 => now + random.below(4),
-            12..=15 => now + random.below(self.cycle),
-            16..=18 => {
-                let edge = self.spans.iter().copied().find(|&edge| edge > now).unwrap_or(END);
-                beside(random, edge)
+        let next_span =
+            |now: u32| self.spans.iter().copied().find(|&edge| edge > now).unwrap_or(END);
+        match random.below(100) {
+            // Far: a list goes on from there, or ends.
+            0 => random.pick(&[END - 1, random_minute]),
+            1 => beside(random, next_span(now)),
+            2 | 3 => random.pick(&[END, END + 1, u32::MAX]),
+            4..=7 => now.saturating_sub(random.between(1, self.cycle)),
+            // Near.
+            8..=17 => now,
+            18..=29 => now + random.below(4),
+            30..=37 => now + random.below(self.cycle),
+            38..=45 => {
+                let span = next_span(now);
+                let is_near = span - now < 10 * self.cycle;
+                beside(random, if is_near { span } else { self.after(now) })
             }
-            19..=21 => {
+            46..=53 => {
                 let far = now + self.cycle * random.below(3);
                 beside(random, self.after(far.min(END)))
             }
@@ -140,10 +146,11 @@ pub fn state(random: &mut Random, users: u32, edges: &Edges) -> State {
         }
     };
     let below = set::below(users);
+    let any = random.bits();
     let some = random.bits() & below;
     let open = match random.below(8) {
         0 => set::with(some, users),
-        1 => random.pick(&[u64::MAX, 1 << 63, random.bits(), !below]),
+        1 => random.pick(&[u64::MAX, 1 << 63, any, !below]),
         2 => 0,
         3 => below,
         _ => some,

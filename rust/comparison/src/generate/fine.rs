@@ -12,7 +12,7 @@ use crate::random::Random;
 pub enum Sets {
     /// Each role has the same users and permissions always: one derived role for each.
     Same,
-    /// Each role's users and permissions follow most of the hours: many thousand derived roles.
+    /// Each role's users and permissions follow most of the hours: thousands of derived roles.
     Many,
 }
 

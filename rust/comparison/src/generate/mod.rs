@@ -12,8 +12,8 @@ pub use calls::{Edges, call, state};
 pub use fine::{Sets, fine_rota};
 pub use hours::{hours, hours_fault, room};
 pub use rota::{
-    EDGE_SIZES, LIMITS, Sizes, damaged_rota, edge_sizes, rota, rota_minute, rota_of, small_rota,
-    with_unused_hours,
+    EDGE_SIZES, LIMITS, Sizes, damaged_rota, edge_sizes, granting_rota, rota, rota_minute, rota_of,
+    small_rota, with_unused_hours,
 };
 pub use table::{damaged_table, huge_counts, small_table, table, table_minute};
 pub use weekly::weekly_rota;

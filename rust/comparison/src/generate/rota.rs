@@ -104,6 +104,25 @@ pub fn rota(random: &mut Random) -> Rota {
     rota_of(random, &sizes)
 }
 
+/// A rota of any size with at least one of everything and several rows for each role, so that
+/// most of them grant something.
+pub fn granting_rota(random: &mut Random) -> Rota {
+    let sizes = sizes(random);
+    let roles = if random.one_in(4) { sizes.roles.max(1) } else { random.between(1, 3) };
+    let hours = sizes.hours.max(1);
+    let sizes = Sizes {
+        hours,
+        pairs: sizes.pairs.max(hours),
+        users: sizes.users.max(1),
+        permissions: sizes.permissions.max(1),
+        roles,
+        user_rows: sizes.user_rows.max(3 * roles),
+        permission_rows: sizes.permission_rows.max(3 * roles),
+        ..sizes
+    };
+    rota_of(random, &sizes)
+}
+
 /// A rota with few of everything, and at least one of everything.
 pub fn small_rota(random: &mut Random) -> Rota {
     let hours = random.between(1, 3);

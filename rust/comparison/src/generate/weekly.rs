@@ -42,7 +42,7 @@ pub fn weekly_rota() -> Rota {
     let row = |i: u8, numbers: u8, always: u8| Row {
         number: i % numbers,
         role: (i / 2) % 6,
-        hours: if i % always == 0 { HoursRef::Always } else { HoursRef::Numbered(i % 12) },
+        hours: if i.is_multiple_of(always) { HoursRef::Always } else { HoursRef::Numbered(i % 12) },
     };
     Rota {
         cycle: WEEK,

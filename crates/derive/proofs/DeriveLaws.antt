@@ -1,0 +1,166 @@
+-- The loop over the fields of a role: what is left, done from where the loop stands, is the whole.
+-- Assumes nothing.
+use Prim.Native.Nat.{ℕ, suc, _+_, _<_, _≤_}
+use mathlib.Core.Path.{_≡_, refl, sym, _∙_, ap, ap₂, subst}
+use mathlib.Core.Bool.{Bool, true, false}
+use mathlib.Core.Option.{Option}
+use mathlib.Core.List.{List, [], _∷_, _++_, append-nil}
+use native.Mathlib.Omega.{arith}
+use native.Mathlib.Numerals.{add-one}
+use lib.Dec.{ltb, eqb}
+use lib.ListN.{length, getD, take, drop, set, length-set}
+use lib.Seq.{take-suc-set, append-snoc, length-take-le}
+use borrow.Author.Tests.{eq-eqb, ne-eqb, lt-ltb, le-ltb}
+use Rattle.ground.specs.Choice.{pick}
+use Rattle.table.specs.Table.{Entry}
+use Rattle.derive.specs.declared.Role.{Role}
+use Rattle.derive.specs.declared.Sets.{Sets}
+use Rattle.derive.specs.Role.{setsIn, keptWith, keptBy}
+use Rattle.derive.specs.Derive.{entriesWith, entriesTo, nextEntries, markOf, entriesFrom, marksFrom, rowsIn, grown, Marked, Derived}
+use Rattle.derive.proofs.FindLaws.{step-drop, no-drop}
+use Rattle.derive.proofs.MarkLaws.{entries-length}
+
+-- ---- one mask more
+
+module _ (g : ℕ → Option Entry) (n : ℕ) (masks : List ℕ) (i : ℕ) (hi : i < n) (hm : n ≤ length masks) (es es′ : List Entry) (m : ℕ)
+    (em : m ≡ markOf es (g (getD masks i 0))) (ee : es′ ≡ nextEntries es (g (getD masks i 0))) where
+  entries-turn : entriesFrom g es′ (drop (i + 1) (take n masks)) ≡ entriesFrom g es (drop i (take n masks))
+  unfolding entriesFrom
+  entries-turn =
+      ap₂ (λ (e : List Entry) (k : ℕ). entriesFrom g e (drop k (take n masks))) ee (add-one i)
+      ∙ ap (entriesFrom g es) (sym (step-drop i n masks hi hm))
+
+  rest-marks : m ∷ marksFrom g es′ (drop (i + 1) (take n masks)) ≡ marksFrom g es (drop i (take n masks))
+  unfolding marksFrom
+  rest-marks =
+      ap₂ (λ (e : List Entry) (k : ℕ). m ∷ marksFrom g e (drop k (take n masks))) ee (add-one i)
+      ∙ ap (λ (z : ℕ). z ∷ marksFrom g (nextEntries es (g (getD masks i 0))) (drop (suc i) (take n masks))) em
+      ∙ ap (marksFrom g es) (sym (step-drop i n masks hi hm))
+
+  marks-turn : (marks : List ℕ) → i < length marks
+      → take (i + 1) (set marks i m) ++ marksFrom g es′ (drop (i + 1) (take n masks)) ≡ take i marks ++ marksFrom g es (drop i (take n masks))
+  marks-turn marks h =
+      ap (λ (l : List ℕ). l ++ marksFrom g es′ (drop (i + 1) (take n masks))) (ap (λ (k : ℕ). take k (set marks i m)) (add-one i) ∙ take-suc-set marks i m h)
+      ∙ append-snoc (take i marks) m (marksFrom g es′ (drop (i + 1) (take n masks)))
+      ∙ ap (λ (l : List ℕ). take i marks ++ l) rest-marks
+
+  rows-turn : (rows : ℕ) → (rows + pick (ltb 0 m) 1 0) + rowsIn (marksFrom g es′ (drop (i + 1) (take n masks))) ≡ rows + rowsIn (marksFrom g es (drop i (take n masks)))
+  unfolding rowsIn
+  rows-turn rows =
+      let z : pick (ltb 0 m) 1 0 + rowsIn (marksFrom g es′ (drop (i + 1) (take n masks))) ≡ rowsIn (marksFrom g es (drop i (take n masks))) = ap rowsIn rest-marks in
+      omega arith
+
+module _ (g : ℕ → Option Entry) (n : ℕ) (masks : List ℕ) (hm : n ≤ length masks) (es : List Entry) where
+  entries-end : entriesFrom g es (drop n (take n masks)) ≡ es
+  unfolding entriesFrom
+  entries-end = ap (entriesFrom g es) (no-drop n masks hm)
+
+  marks-end : (l : List ℕ) → l ++ marksFrom g es (drop n (take n masks)) ≡ l
+  unfolding marksFrom
+  marks-end l = ap (λ (q : List ℕ). l ++ marksFrom g es q) (no-drop n masks hm) ∙ append-nil l
+
+  rows-end : rowsIn (marksFrom g es (drop n (take n masks))) ≡ 0
+  unfolding marksFrom rowsIn
+  rows-end = ap (λ (q : List ℕ). rowsIn (marksFrom g es q)) (no-drop n masks hm)
+
+-- ---- the loop
+
+pub record Deriving (role : Role) (n : ℕ) (masks us₀ ps₀ marks₀ us ps marks : List ℕ) (d rows i : ℕ) : Type 0 where
+  pub within : i ≤ n
+  pub few : d ≤ i
+  pub few-rows : rows ≤ i
+  pub long-users : length us ≡ length us₀
+  pub long-permissions : length ps ≡ length ps₀
+  pub long-marks : length marks ≡ length marks₀
+  pub entries : entriesFrom (keptBy role) (entriesTo (role .source) d us ps) (drop i (take n masks)) ≡ entriesFrom (keptBy role) [] (take n masks)
+  pub marks-so : take i marks ++ marksFrom (keptBy role) (entriesTo (role .source) d us ps) (drop i (take n masks)) ≡ marksFrom (keptBy role) [] (take n masks)
+  pub rows-so : rows + rowsIn (marksFrom (keptBy role) (entriesTo (role .source) d us ps) (drop i (take n masks))) ≡ rowsIn (marksFrom (keptBy role) [] (take n masks))
+
+pub deriving-start : (role : Role) (n : ℕ) (masks us ps marks : List ℕ) → Deriving role n masks us ps marks us ps marks 0 0 0
+unfolding entriesWith
+deriving-start role n masks us ps marks =
+    record {
+      within = omega arith;
+      few = omega arith;
+      few-rows = omega arith;
+      long-users = refl;
+      long-permissions = refl;
+      long-marks = refl;
+      entries = refl;
+      marks-so = refl;
+      rows-so = omega arith;
+    }
+
+pub grown-yes : (d m : ℕ) → m ≡ d + 1 → d + 1 ≡ grown d m
+grown-yes d m e = rw (eq-eqb m (d + 1) e)
+
+pub grown-no : (d m : ℕ) → (m ≡ d + 1 → ⊥) → d ≡ grown d m
+grown-no d m e = rw (ne-eqb m (d + 1) e)
+
+pub row-yes : (rows m : ℕ) → 0 < m → rows + 1 ≡ rows + pick (ltb 0 m) 1 0
+row-yes rows m h = rw (lt-ltb 0 m h)
+
+pub row-no : (rows m : ℕ) → m ≤ 0 → rows ≡ rows + pick (ltb 0 m) 1 0
+row-no rows m h = rw (le-ltb 0 m h) (omega arith)
+
+module _ (role : Role) (n : ℕ) (masks us₀ ps₀ marks₀ us ps marks : List ℕ) (d rows i : ℕ) (hm : n ≤ length masks) (hk : n ≤ length marks₀)
+    (s : Deriving role n masks us₀ ps₀ marks₀ us ps marks d rows i) where
+  pub deriving-turn : (x : Sets) (us′ ps′ : List ℕ) (m d′ rows′ : ℕ) → i < n → x ≡ setsIn (role .on) (role .users) (role .permissions) (getD masks i 0)
+      → Marked (role .source) (keptWith (role .source) x) d us ps us′ ps′ m → length us′ ≡ length us → length ps′ ≡ length ps
+      → d′ ≡ grown d m → rows′ ≡ rows + pick (ltb 0 m) 1 0
+      → Deriving role n masks us₀ ps₀ marks₀ us′ ps′ (set marks i m) d′ rows′ (i + 1)
+  unfolding keptBy
+  deriving-turn x us′ ps′ m d′ rows′ hi ex k lu lp ed er =
+      let es = entriesTo (role .source) d us ps in
+      let eg : keptWith (role .source) x ≡ keptBy role (getD masks i 0) = ap (keptWith (role .source)) ex in
+      let em : m ≡ markOf es (keptBy role (getD masks i 0)) = k .marked ∙ ap (markOf es) eg in
+      let ee : entriesTo (role .source) d′ us′ ps′ ≡ nextEntries es (keptBy role (getD masks i 0))
+      = ap (λ (q : ℕ). entriesTo (role .source) q us′ ps′) ed ∙ k .entries-then ∙ ap (nextEntries es) eg in
+      record {
+        within = omega arith;
+        few = more (eqb m (d + 1)) ed;
+        few-rows = more-rows (ltb 0 m) er;
+        long-users = lu ∙ s .long-users;
+        long-permissions = lp ∙ s .long-permissions;
+        long-marks = length-set marks i m ∙ s .long-marks;
+        entries = entries-turn (keptBy role) n masks i hi hm es (entriesTo (role .source) d′ us′ ps′) m em ee ∙ s .entries;
+        marks-so = marks-turn (keptBy role) n masks i hi hm es (entriesTo (role .source) d′ us′ ps′) m em ee marks (omega (arith, s .long-marks)) ∙ s .marks-so;
+        rows-so =
+            ap (λ (q : ℕ). q + rowsIn (marksFrom (keptBy role) (entriesTo (role .source) d′ us′ ps′) (drop (i + 1) (take n masks)))) er
+            ∙ rows-turn (keptBy role) n masks i hi hm es (entriesTo (role .source) d′ us′ ps′) m em ee rows ∙ s .rows-so;
+      }
+    where
+      more : (b : Bool) → d′ ≡ pick b (d + 1) d → d′ ≤ i + 1
+      more true e = omega (arith, s .few)
+      more false e = omega (arith, s .few)
+
+      more-rows : (b : Bool) → rows′ ≡ rows + pick b 1 0 → rows′ ≤ i + 1
+      more-rows true e = omega (arith, s .few-rows)
+      more-rows false e = omega (arith, s .few-rows)
+
+  pub deriving-end : i ≡ n → n ≤ length us₀ → n ≤ length ps₀ → Derived role masks n us ps marks (record { entries = d; rows = rows })
+  deriving-end e hu hp =
+      let t : Deriving role n masks us₀ ps₀ marks₀ us ps marks d rows n = subst (Deriving role n masks us₀ ps₀ marks₀ us ps marks d rows) e s in
+      let es = entriesTo (role .source) d us ps in
+      record {
+        few = t .few;
+        few-rows = t .few-rows;
+        count-is =
+            sym (length-take-le d us (omega (arith, t .few, t .long-users)))
+            ∙ sym (entries-length (role .source) (take d us) (take d ps)
+            (length-take-le d us (omega (arith, t .few, t .long-users)) ∙ sym (length-take-le d ps (omega (arith, t .few, t .long-permissions)))))
+            ∙ ap length (sym (entries-end (keptBy role) n masks hm es) ∙ t .entries);
+        entries-are = sym (entries-end (keptBy role) n masks hm es) ∙ t .entries;
+        marks-are = sym (marks-end (keptBy role) n masks hm es (take n marks)) ∙ t .marks-so;
+        rows-are = last (rows-end (keptBy role) n masks hm es) (t .rows-so);
+      }
+    where
+      last : {a b : ℕ} → b ≡ 0 → rows + b ≡ a → rows ≡ a
+      last p q = omega arith
+
+-- ---- there is one mark for each mask
+
+pub marks-count : (g : ℕ → Option Entry) (es : List Entry) (ms : List ℕ) → length (marksFrom g es ms) ≡ length ms
+unfolding marksFrom
+marks-count g es [] = refl
+marks-count g es (m ∷ ms) = ap suc (marks-count g (nextEntries es (g m)) ms)

@@ -1,0 +1,121 @@
+-- The union over a mask, one slot more; the search among entries, one more or found.
+-- Assumes nothing.
+use Prim.Native.Nat.{ℕ, suc, _+_, _<_, _≤_}
+use mathlib.Core.Path.{_≡_, refl, sym, _∙_, ap, ap₂}
+use mathlib.Core.Bool.{Bool, true, false, _&&_}
+use mathlib.Core.List.{List, [], _∷_}
+use native.Mathlib.Omega.{arith}
+use native.Mathlib.Numerals.{add-one}
+use lib.Dec.{T, eqb, eqb-refl}
+use lib.ListN.{length, getD, take, drop}
+use lib.Seq.{drop-cons, getD-take, length-take-le, drop-length}
+use borrow.Author.Tests.{eq-eqb, ne-eqb}
+use Rattle.ground.specs.Choice.{pick}
+use Rattle.ground.proofs.BoolLaws.{T→eq}
+use Rattle.bitset.specs.Sets.{has, union}
+use Rattle.table.specs.Table.{Entry}
+use Rattle.table.specs.Answers.{entryMade}
+use Rattle.derivation.specs.Distinct.{placeOf}
+use Rattle.derivation.specs.Rewriting.{same}
+use Rattle.derive.specs.Role.{unionOf, setsMade, setsIn}
+use Rattle.derive.specs.Derive.{entriesWith}
+
+-- ---- the union
+
+pub union-none : (sets : List ℕ) (m : ℕ) → 0 ≡ unionOf sets m 0
+unfolding unionOf
+union-none sets m = refl
+
+module _ (sets : List ℕ) (m k x : ℕ) (e : x ≡ unionOf sets m k) where
+  union-step : (b : Bool) → has m k ≡ b → pick b (union x (getD sets k 0)) x ≡ unionOf sets m (k + 1)
+  unfolding unionOf
+  union-step b f =
+      ap₂ (λ (c : Bool) (y : ℕ). pick c (union y (getD sets k 0)) y) (sym f) e ∙ ap (unionOf sets m) (sym (add-one k))
+
+  pub union-with : (y : ℕ) → has m k ≡ true → y ≡ union x (getD sets k 0) → y ≡ unionOf sets m (k + 1)
+  union-with y f q = q ∙ union-step true f
+
+  pub union-without : (y : ℕ) → has m k ≡ false → y ≡ x → y ≡ unionOf sets m (k + 1)
+  union-without y f q = q ∙ union-step false f
+
+-- ---- a role's two sets
+
+module _ (on : ℕ) (users permissions : List ℕ) (m : ℕ) where
+  pub enabled-sets : (u p : ℕ) → has m on ≡ true → u ≡ unionOf users m 33 → p ≡ unionOf permissions m 33 → setsMade u p ≡ setsIn on users permissions m
+  unfolding setsIn
+  enabled-sets u p e f h = ap₂ setsMade f h ∙ rw e
+
+  pub no-sets : has m on ≡ false → setsMade 0 0 ≡ setsIn on users permissions m
+  unfolding setsIn
+  no-sets e = rw e
+
+-- ---- lists passed over one at a time
+
+pub step-drop : (i n : ℕ) (l : List ℕ) → i < n → n ≤ length l → drop i (take n l) ≡ getD l i 0 ∷ drop (suc i) (take n l)
+step-drop i n l h k =
+    drop-cons (take n l) i 0 (omega (arith, length-take-le n l k)) ∙ ap (λ (y : ℕ). y ∷ drop (suc i) (take n l)) (getD-take n l i 0 h)
+
+pub no-drop : (n : ℕ) (l : List ℕ) → n ≤ length l → drop n (take n l) ≡ []
+no-drop n l h = ap (λ (k : ℕ). drop k (take n l)) (sym (length-take-le n l h)) ∙ drop-length (take n l)
+
+-- ---- the search
+
+-- the entries from i on
+abbrev pub entriesLeft : ℕ → ℕ → ℕ → List ℕ → List ℕ → List Entry
+entriesLeft source i n us ps = entriesWith source (drop i (take n us)) (drop i (take n ps))
+
+pub left-next : (source i n : ℕ) (us ps : List ℕ) → i < n → n ≤ length us → n ≤ length ps
+    → entriesLeft source i n us ps ≡ entryMade source (getD us i 0) (getD ps i 0) ∷ entriesLeft source (suc i) n us ps
+unfolding entriesWith
+left-next source i n us ps h p q = ap₂ (entriesWith source) (step-drop i n us h p) (step-drop i n ps h q)
+
+-- the same at the code's i + 1
+pub left-turn : (source i n : ℕ) (us ps : List ℕ) → i < n → n ≤ length us → n ≤ length ps
+    → entriesLeft source i n us ps ≡ entryMade source (getD us i 0) (getD ps i 0) ∷ entriesLeft source (i + 1) n us ps
+left-turn source i n us ps h p q =
+    left-next source i n us ps h p q
+    ∙ ap (λ (k : ℕ). entryMade source (getD us i 0) (getD ps i 0) ∷ entriesLeft source k n us ps) (sym (add-one i))
+
+pub left-none : (source n : ℕ) (us ps : List ℕ) → n ≤ length us → entriesLeft source n n us ps ≡ []
+unfolding entriesWith
+left-none source n us ps h = ap (λ (l : List ℕ). entriesWith source l (drop n (take n ps))) (no-drop n us h)
+
+and-no : (b : Bool) → (b && false) ≡ false
+and-no true = refl
+and-no false = refl
+
+module _ (source u p i n : ℕ) (us ps : List ℕ) (hi : i < n) (hu : n ≤ length us) (hp : n ≤ length ps) where
+  step : (b : Bool) → same (entryMade source u p) (entryMade source (getD us i 0) (getD ps i 0)) ≡ b
+      → placeOf same (entryMade source u p) (entriesLeft source i n us ps) ≡ pick b 0 (suc (placeOf same (entryMade source u p) (entriesLeft source (suc i) n us ps)))
+  unfolding placeOf
+  step b e =
+      ap (placeOf same (entryMade source u p)) (left-next source i n us ps hi hu hp)
+      ∙ ap (λ (c : Bool). pick c 0 (suc (placeOf same (entryMade source u p) (entriesLeft source (suc i) n us ps)))) e
+
+  pub find-hit : getD us i 0 ≡ u → getD ps i 0 ≡ p → i ≡ i + placeOf same (entryMade source u p) (entriesLeft source i n us ps)
+  find-hit eu ep =
+      let z = step true (rw (T→eq (eqb source source) (eqb-refl source), eq-eqb u (getD us i 0) (sym eu), eq-eqb p (getD ps i 0) (sym ep))) in
+      omega arith
+
+  miss : same (entryMade source u p) (entryMade source (getD us i 0) (getD ps i 0)) ≡ false
+      → (i + 1) + placeOf same (entryMade source u p) (entriesLeft source (i + 1) n us ps) ≡ i + placeOf same (entryMade source u p) (entriesLeft source i n us ps)
+  miss e =
+      let z = step false e in
+      let y : placeOf same (entryMade source u p) (entriesLeft source (i + 1) n us ps) ≡ placeOf same (entryMade source u p) (entriesLeft source (suc i) n us ps)
+      = ap (λ (k : ℕ). placeOf same (entryMade source u p) (entriesLeft source k n us ps)) (add-one i) in
+      omega arith
+
+  pub miss-users : (getD us i 0 ≡ u → ⊥)
+      → (i + 1) + placeOf same (entryMade source u p) (entriesLeft source (i + 1) n us ps) ≡ i + placeOf same (entryMade source u p) (entriesLeft source i n us ps)
+  miss-users ne = miss (rw (T→eq (eqb source source) (eqb-refl source), ne-eqb u (getD us i 0) (λ e. ne (sym e))))
+
+  pub miss-permissions : (getD ps i 0 ≡ p → ⊥)
+      → (i + 1) + placeOf same (entryMade source u p) (entriesLeft source (i + 1) n us ps) ≡ i + placeOf same (entryMade source u p) (entriesLeft source i n us ps)
+  miss-permissions ne = miss (rw (ne-eqb p (getD ps i 0) (λ e. ne (sym e))) (and-no (eqb source source && eqb u (getD us i 0))))
+
+pub find-end : (source u p i n : ℕ) (us ps : List ℕ) → n ≤ length us → i ≡ n → n ≡ i + placeOf same (entryMade source u p) (entriesLeft source i n us ps)
+unfolding placeOf
+find-end source u p i n us ps h e =
+    let z : placeOf same (entryMade source u p) (entriesLeft source i n us ps) ≡ 0
+    = ap (λ (k : ℕ). placeOf same (entryMade source u p) (entriesLeft source k n us ps)) e ∙ ap (placeOf same (entryMade source u p)) (left-none source n us ps h) in
+    omega arith

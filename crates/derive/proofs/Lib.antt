@@ -1,0 +1,4 @@
+pub mod FindLaws
+pub mod MarkLaws
+pub mod DeriveLaws
+pub mod RoleLaws

@@ -1,0 +1,103 @@
+use native.Mathlib.Omega.{arith}
+use mathlib.Core.Path.{_∙_}
+use mathlib.Core.Logic.{⊎-elim}
+use Prim.Native.Nat.{_-_}
+use Rattle.derive.specs.Derive.{roleMade}
+use Rattle.derive.proofs.DeriveLaws.{Deriving, deriving-start, deriving-turn, deriving-end, grown-yes, grown-no, row-yes, row-no}
+use Rattle.derive.proofs.derive.Statement.{statement}
+use Rattle.derive.proofs.derive.Tie as tie
+
+abbrev Inv-loop : tie.InvT-loop
+Inv-loop masks n us₀ ps₀ marks₀ source on users permissions d₀ rows₀ i₀ us ps marks d rows i = Deriving (roleMade source on users permissions) n masks us₀ ps₀ marks₀ us ps marks d rows i
+
+abbrev μ-loop : tie.MeasureT-loop
+μ-loop masks n us₀ ps₀ marks₀ source on users permissions d₀ rows₀ i₀ us ps marks d rows i = n - i
+
+loop-holds : tie.Need-loop-holds Inv-loop μ-loop
+loop-holds c = deriving-start _ _ _ _ _ _
+
+mul-sets-in : tie.Need-mul-sets-in Inv-loop μ-loop
+mul-sets-in c = omega arith
+
+shared-slice-read-sets-in : tie.Need-shared-slice-read-sets-in Inv-loop μ-loop
+shared-slice-read-sets-in c = omega arith
+
+sets-in-requires : tie.Need-sets-in-requires Inv-loop μ-loop
+sets-in-requires c κs = omega (arith, c .before .before .before .before .before .before .before .before .before .before .before .pre)
+
+mark-field-requires : tie.Need-mark-field-requires Inv-loop μ-loop
+mark-field-requires c κs = omega arith
+
+add-if1 : tie.Need-add-if1 Inv-loop μ-loop
+add-if1 c = omega arith
+
+add-d : tie.Need-add-d Inv-loop μ-loop
+add-d c = omega arith
+
+add-rows : tie.Need-add-rows Inv-loop μ-loop
+add-rows c = omega arith
+
+cast-marks : tie.Need-cast-marks Inv-loop μ-loop
+cast-marks c = omega (arith, c .before .before .before .before .before .before .before .before .before .before .before .before .before .before .before .before .before .before .before .before .before .pre .1, c .before .before .before .before .before .before .mark-field .ensures .small)
+
+mul-marks : tie.Need-mul-marks Inv-loop μ-loop
+mul-marks c = omega arith
+
+slice-write-marks : tie.Need-slice-write-marks Inv-loop μ-loop
+slice-write-marks c = omega arith
+
+add-i : tie.Need-add-i Inv-loop μ-loop
+add-i c = omega arith
+
+loop-less : tie.Need-loop-less Inv-loop μ-loop
+loop-less c = omega arith
+
+loop-again : tie.Need-loop-again Inv-loop μ-loop
+loop-again c = let l = c .before .before .before .before .before .before .before .before .before .before .before .before .before .before .loop in
+    let a = c .before .before .before .before .before .before .before .before .before .before .before .before .before .before .before .before .before .before .before .before .before .args in
+    let p = c .before .before .before .before .before .before .before .before .before .before .before .before .before .before .before .before .before .before .before .before .before .pre .1 in
+    let k = c .before .before .before .before .before .before .mark-field in
+    deriving-turn _ (a .n) (a .masks .now) (a .us .now) (a .ps .now) (a .marks .now) (l .us) (l .ps) (l .marks) (l .d) (l .rows) (l .i) (p .for-masks) (p .for-marks) (l .inv)
+    _ _ _ (k .result) (c .before .if1 .d) (c .if2 .rows) (omega (arith, c .before .before .before .before .before .before .before .before .before .before .before .before .before)) (c .before .before .before .before .before .before .before .before .before .sets-in .ensures) (k .ensures) (k .kept .1 .1 .0) (k .kept .1 .1 .1 .0)
+    (⊎-elim (λ w. w .1 ∙ grown-yes (l .d) (k .result) (w .0 .taken)) (λ w. w .1 ∙ grown-no (l .d) (k .result) (w .0 .left)) (c .before .if1 .came))
+    (⊎-elim (λ w. w .1 ∙ row-yes (l .rows) (k .result) (w .0 .taken)) (λ w. w .1 ∙ row-no (l .rows) (k .result) (w .0 .left)) (c .if2 .came))
+
+same-length : tie.Need-same-length Inv-loop μ-loop
+same-length c = c .before .loop .inv .long-users
+
+same-length-2 : tie.Need-same-length-2 Inv-loop μ-loop
+same-length-2 c = c .before .loop .inv .long-permissions
+
+same-length-3 : tie.Need-same-length-3 Inv-loop μ-loop
+same-length-3 c = c .before .loop .inv .long-marks
+
+returns : tie.Need-returns Inv-loop μ-loop
+returns c = let l = c .before .loop in
+    let a = c .before .before .before .before .before .before .before .before .args in
+    let p = c .before .before .before .before .before .before .before .before .pre .1 in
+    deriving-end _ (a .n) (a .masks .now) (a .us .now) (a .ps .now) (a .marks .now) (l .us) (l .ps) (l .marks) (l .d) (l .rows) (l .i) (p .for-masks) (p .for-marks) (l .inv) (omega arith) (p .for-users) (p .for-permissions)
+
+pub derive-spec : {M : Type 1} → statement M
+derive-spec =
+    tie.close
+    (tie.spec
+    Inv-loop
+    μ-loop
+    loop-holds
+    mul-sets-in
+    shared-slice-read-sets-in
+    sets-in-requires
+    mark-field-requires
+    add-if1
+    add-d
+    add-rows
+    cast-marks
+    mul-marks
+    slice-write-marks
+    add-i
+    loop-less
+    loop-again
+    same-length
+    same-length-2
+    same-length-3
+    returns)

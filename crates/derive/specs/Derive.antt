@@ -1,0 +1,78 @@
+-- The derived roles of one role in the order in which they come, and the mark of each field.
+use Prim.Native.Nat.{ℕ, suc, _+_, _≤_}
+use mathlib.Core.Path.{_≡_}
+use mathlib.Core.Option.{Option, none, some}
+use mathlib.Core.List.{List, [], _∷_}
+use lib.Dec.{ltb, eqb}
+use lib.ListN.{length, take}
+use Rattle.ground.specs.Choice.{pick}
+use Rattle.table.specs.Table.{Entry}
+use Rattle.table.specs.Answers.{entryMade}
+use Rattle.derivation.specs.Distinct.{addNew, placeOf}
+use Rattle.derivation.specs.Rewriting.{same}
+use Rattle.derive.specs.declared.Role.{Role}
+use Rattle.derive.specs.declared.Count.{Count}
+use Rattle.derive.specs.Role.{keptBy}
+
+-- sets side by side as entries of a source
+unfoldable pub entriesWith : ℕ → List ℕ → List ℕ → List Entry
+entriesWith source [] ps = []
+entriesWith source (u ∷ us) [] = []
+entriesWith source (u ∷ us) (p ∷ ps) = entryMade source u p ∷ entriesWith source us ps
+
+-- the first n of both
+abbrev pub entriesTo : ℕ → ℕ → List ℕ → List ℕ → List Entry
+entriesTo source n us ps = entriesWith source (take n us) (take n ps)
+
+-- the entries after a field, and the field's mark: 0 where it is not kept, else one more than the place of its entry
+unfoldable pub nextEntries : List Entry → Option Entry → List Entry
+nextEntries es none = es
+nextEntries es (some e) = addNew same es e
+
+unfoldable pub markOf : List Entry → Option Entry → ℕ
+markOf es none = 0
+markOf es (some e) = suc (placeOf same e es)
+
+-- over masks, of which g says what a field with each gives
+unfoldable pub entriesFrom : (ℕ → Option Entry) → List Entry → List ℕ → List Entry
+entriesFrom g es [] = es
+entriesFrom g es (m ∷ ms) = entriesFrom g (nextEntries es (g m)) ms
+
+unfoldable pub marksFrom : (ℕ → Option Entry) → List Entry → List ℕ → List ℕ
+marksFrom g es [] = []
+marksFrom g es (m ∷ ms) = markOf es (g m) ∷ marksFrom g (nextEntries es (g m)) ms
+
+-- a mark that is not 0 is a row
+unfoldable pub rowsIn : List ℕ → ℕ
+rowsIn [] = 0
+rowsIn (m ∷ ms) = pick (ltb 0 m) 1 0 + rowsIn ms
+
+-- how many entries there are after a mark
+abbrev pub grown : ℕ → ℕ → ℕ
+grown d m = pick (eqb m (d + 1)) (d + 1) d
+
+-- one field: its mark, and the entries afterwards
+pub record Marked (source : ℕ) (kept : Option Entry) (d : ℕ) (us ps us′ ps′ : List ℕ) (m : ℕ) : Type 0 where
+  pub marked : m ≡ markOf (entriesTo source d us ps) kept
+  pub small : m ≤ d + 1
+  pub entries-then : entriesTo source (grown d m) us′ ps′ ≡ nextEntries (entriesTo source d us ps) kept
+
+-- the lists have n places, and a mark fits two bytes
+pub record Room (n : ℕ) (masks us ps marks : List ℕ) : Type 0 where
+  pub few : n ≤ 33345
+  pub for-masks : n ≤ length masks
+  pub for-users : n ≤ length us
+  pub for-permissions : n ≤ length ps
+  pub for-marks : n ≤ length marks
+
+abbrev pub roleMade : ℕ → ℕ → List ℕ → List ℕ → Role
+roleMade source on users permissions = record { source = source; on = on; users = users; permissions = permissions }
+
+-- a whole role
+pub record Derived (role : Role) (masks : List ℕ) (n : ℕ) (us ps marks : List ℕ) (r : Count) : Type 0 where
+  pub few : r .entries ≤ n
+  pub few-rows : r .rows ≤ n
+  pub count-is : r .entries ≡ length (entriesFrom (keptBy role) [] (take n masks))
+  pub entries-are : entriesTo (role .source) (r .entries) us ps ≡ entriesFrom (keptBy role) [] (take n masks)
+  pub marks-are : take n marks ≡ marksFrom (keptBy role) [] (take n masks)
+  pub rows-are : r .rows ≡ rowsIn (marksFrom (keptBy role) [] (take n masks))

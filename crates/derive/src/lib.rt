@@ -1,0 +1,129 @@
+// One role's derived roles: the distinct pairs of sets that it has in the fields, in the order in which they come, and which one each field has.
+ghost use mathlib.Core.Path.{_≡_};
+ghost use Prim.Native.Nat.{_+_, _<_, _≤_};
+ghost use lib.ListN.{length};
+ghost use Rattle.table.specs.Answers.{entryMade};
+ghost use Rattle.derivation.specs.Distinct.{placeOf};
+ghost use Rattle.derivation.specs.Rewriting.{same};
+ghost use Rattle.derive.specs.Role.{unionOf, setsIn, keptWith};
+ghost use Rattle.derive.specs.Derive.{entriesTo, Marked, Room, Derived};
+
+// A role: its number, the slot of the hours in which it is enabled, and its users and permissions by slot. Slot k is hours record k, 32 is always.
+pub struct Role {
+    pub source: u8,
+    pub on: u32,
+    pub users: [u64; 33],
+    pub permissions: [u64; 33],
+}
+
+pub struct Sets {
+    pub users: u64,
+    pub permissions: u64,
+}
+
+pub struct Count {
+    pub entries: usize,
+    pub rows: usize,
+}
+
+// The union of those of the 33 sets whose slots are in the mask.
+fn union_in(sets: &[u64; 33], mask: u64) -> u64
+    ensures { λ r. ⌜ r ≡ unionOf (now (sets .entry)) mask 33 ⌝ }
+{
+    let mut all = 0;
+    for k in 0..33u32 {
+        if bitset::contains(mask, k) {
+            let i = k as usize;
+            all = bitset::either(all, sets[i]);
+        }
+    }
+    all
+}
+
+// What a role that is enabled in slot `on` has in a field with this mask; nothing where it is not enabled.
+fn sets_in(on: u32, users: &[u64; 33], permissions: &[u64; 33], mask: u64) -> Sets
+    requires { ⌜ on < 64 ⌝ }
+    ensures { λ r. ⌜ r ≡ setsIn on (now (users .entry)) (now (permissions .entry)) mask ⌝ }
+{
+    if bitset::contains(mask, on) {
+        Sets {
+            users: union_in(users, mask),
+            permissions: union_in(permissions, mask),
+        }
+    } else {
+        Sets {
+            users: 0,
+            permissions: 0,
+        }
+    }
+}
+
+// Where the two sets stand among the first n of us and ps, or n.
+fn find(source: u8, us: &[u64], ps: &[u64], n: usize, u: u64, p: u64) -> usize
+    requires { ⌜ (n ≤ length (now us)) × (n ≤ length (now ps)) ⌝ }
+    ensures { λ k. ⌜ k ≡ placeOf same (entryMade source u p) (entriesTo source n (now (us .entry)) (now (ps .entry))) ⌝ }
+{
+    let mut i = 0;
+    while i < n {
+        if us[i] == u {
+            if ps[i] == p {
+                return i;
+            }
+        }
+        i += 1;
+    }
+    n
+}
+
+// The mark of a field: 0 where the role has nothing there, else one more than the place of its two sets, which are among the first d or come next.
+fn mark_field(source: u8, x: Sets, us: &mut [u64], ps: &mut [u64], d: usize) -> usize
+    requires { ⌜ (d < length (now us)) × (d < length (now ps)) ⌝ }
+    ensures { λ m. ⌜ Marked source (keptWith source x) d (now (us .entry)) (now (ps .entry)) (now (us .exit)) (now (ps .exit)) m ⌝ }
+{
+    let u = x.users;
+    let p = x.permissions;
+    if u == 0 {
+        return 0;
+    }
+    if p == 0 {
+        return 0;
+    }
+    let k = find(source, us, ps, d, u, p);
+    us[k] = u;
+    ps[k] = p;
+    k + 1
+}
+
+// The marks of the first n masks, and the sets that they are the places of.
+pub fn derive(
+    role: Role,
+    masks: &[u64],
+    n: usize,
+    us: &mut [u64],
+    ps: &mut [u64],
+    marks: &mut [u16],
+) -> Count
+    requires { ⌜ (role .on < 64) × Room n (now masks) (now us) (now ps) (now marks) ⌝ }
+    ensures { λ r. ⌜ Derived role (now (masks .entry)) n (now (us .exit)) (now (ps .exit)) (now (marks .exit)) r ⌝ }
+{
+    let source = role.source;
+    let on = role.on;
+    let users = role.users;
+    let permissions = role.permissions;
+    let mut d = 0;
+    let mut rows = 0;
+    let mut i = 0;
+    while i < n {
+        let x = sets_in(on, &users, &permissions, masks[i]);
+        let m = mark_field(source, x, us, ps, d);
+        if m == d + 1 {
+            d += 1;
+        }
+        if 0 < m {
+            rows += 1;
+        }
+        marks[i] = m as u16;
+        i += 1;
+    }
+    Count { entries: d, rows }
+}

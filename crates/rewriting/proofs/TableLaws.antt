@@ -1,0 +1,136 @@
+-- Header, entries and rows are the table; and what rewriting answers.
+-- Assumes nothing.
+use Prim.Native.Nat.{ℕ, _+_, _*_, _≤_, _<_}
+use mathlib.Core.Path.{_≡_, refl, sym, _∙_, ap, ap₂}
+use mathlib.Core.List.{List, _++_}
+use native.Mathlib.Omega.{arith}
+use lib.ListN.{length, drop}
+use lib.Seq.{sets, length-sets}
+use lib.Dec.{leb}
+use mathlib.Core.Bool.{Bool, true, false}
+use borrow.Author.Tests.{le-leb, lt-leb, leb-true, leb-false}
+use Rattle.table.specs.declared.Counts.{Counts}
+use Rattle.ground.specs.Sequence.{joined}
+use Rattle.ground.specs.Outcome.{refused, given}
+use Rattle.endian.specs.Numbers.{bytes16, bytes32}
+use Rattle.rota.specs.RotaBytes.{cycleOf, hoursOf, rotaOf}
+use Rattle.rota.specs.RotaRefusals.{rotaJudged}
+use Rattle.rota.specs.declared.Layout.{Layout}
+use Rattle.rota.proofs.RotaWellLaws.{roles-count}
+use Rattle.table.specs.TableBytes.{headerBytes, entryBytes, rowBytes, tableBytes}
+use Rattle.derivation.specs.Rewriting.{rewrite, sizeOf, rewriteOutcome, areaAfter}
+use Rattle.rewriting.specs.Parts.{Located, HeaderFits, started, lengthWith, CountedTo}
+use Rattle.rewriting.proofs.AnswerLaws.{too-long, written}
+use Rattle.derive.specs.declared.Count.{Count}
+use Rattle.rewriting.proofs.LocatedLaws.{layout-is}
+use Rattle.rewriting.proofs.WriteLaws.{entry-long, row-long, joined-long, three-runs}
+
+-- the header of a table with d entries and n rows
+abbrev pub countsWith : Layout → ℕ → ℕ → Counts
+countsWith l d n =
+    record { cycle = l .counts .cycle; users = l .counts .users; permissions = l .counts .permissions; roles = l .counts .roles; derived = d; rows = n }
+
+-- the first store, or none
+module _ (area : List ℕ) (n : Counts) (size : ℕ) where
+  pub not-started : length area < size → (false ≡ leb size (length area)) × (area ≡ started area n size)
+  unfolding started
+  not-started h = let e = lt-leb size (length area) h in (sym e, rw e)
+
+  pub is-started : (after : List ℕ) → size ≤ length area → after ≡ sets area 0 (headerBytes (n .cycle) (n .users) (n .permissions) (n .roles) (n .derived) (n .rows))
+      → (true ≡ leb size (length area)) × (after ≡ started area n size)
+  unfolding started
+  is-started after h q = let e = le-leb size (length area) h in (sym e, q ∙ rw e)
+
+  pub started-yes : (b : Bool) (after : List ℕ) → b ≡ leb size (length area) → b ≡ true → after ≡ started area n size
+      → (size ≤ length area) × (after ≡ sets area 0 (headerBytes (n .cycle) (n .users) (n .permissions) (n .roles) (n .derived) (n .rows)))
+  unfolding started
+  started-yes b after e t q = let y = sym e ∙ t in (leb-true size (length area) y, q ∙ rw y)
+
+  pub started-no : (b : Bool) (after : List ℕ) → b ≡ leb size (length area) → b ≡ false → after ≡ started area n size → (length area < size) × (after ≡ area)
+  unfolding started
+  started-no b after e t q = let y = sym e ∙ t in (leb-false size (length area) y, q ∙ rw y)
+
+header-long : (c u p r d n : ℕ) → length (headerBytes c u p r d n) ≡ 16
+unfolding headerBytes bytes16 bytes32
+header-long c u p r d n = refl
+
+module _ (s : List ℕ) (l : Layout) (w : Located s l) where
+  -- the header's fields fit
+  pub header-fits : (d n : ℕ) → HeaderFits (countsWith l d n)
+  header-fits d n =
+      let q = layout-is s l w in
+      let h = q .fine .header in
+      record {
+        cycle = omega (arith, q .counts .cycle, h .cycle-most);
+        users = omega (arith, q .counts .users, h .users-most);
+        permissions = omega (arith, q .counts .permissions, h .permissions-most);
+        roles = omega (arith, q .counts .roles, h .roles-most);
+      }
+
+  module _ (d n : ℕ) (ed : d ≡ length (rewrite (rotaOf s) .entries)) (en : n ≡ length (rewrite (rotaOf s) .rows)) where
+    header-is : headerBytes (l .counts .cycle) (l .counts .users) (l .counts .permissions) (l .counts .roles) d n
+        ≡ headerBytes (rewrite (rotaOf s) .cycle) (rewrite (rotaOf s) .users) (rewrite (rotaOf s) .permissions) (rewrite (rotaOf s) .roles)
+        (length (rewrite (rotaOf s) .entries)) (length (rewrite (rotaOf s) .rows))
+    unfolding rewrite rotaOf
+    header-is =
+        let q = layout-is s l w .counts in
+        rw (q .cycle, q .users, q .permissions, q .roles ∙ sym (roles-count s), ed, en)
+
+    pub table-written : (out out₁ out₂ : List ℕ) → sizeOf (rewrite (rotaOf s)) ≤ length out
+        → out₁ ≡ sets out 0 (headerBytes (l .counts .cycle) (l .counts .users) (l .counts .permissions) (l .counts .roles) d n)
+        → out₂ ≡ sets (sets out₁ 16 (joined entryBytes (rewrite (rotaOf s) .entries))) (16 + 17 * d) (joined rowBytes (rewrite (rotaOf s) .rows))
+        → out₂ ≡ tableBytes (rewrite (rotaOf s)) ++ drop (sizeOf (rewrite (rotaOf s))) out
+    unfolding tableBytes sizeOf
+    table-written out out₁ out₂ h e₁ e₂ =
+        let τ = rewrite (rotaOf s) in
+        let e = joined entryBytes (τ .entries) in
+        let r = joined rowBytes (τ .rows) in
+        let le : length e ≡ 17 * length (τ .entries) = joined-long entryBytes 17 entry-long (τ .entries) in
+        let lr : length r ≡ 16 * length (τ .rows) = joined-long rowBytes 16 row-long (τ .rows) in
+        e₂ ∙ ap (λ (x : List ℕ). sets (sets x 16 e) (16 + 17 * d) r) (e₁ ∙ ap (sets out 0) header-is)
+        ∙ three-runs out (headerBytes (τ .cycle) (τ .users) (τ .permissions) (τ .roles) (length (τ .entries)) (length (τ .rows))) e r (16 + 17 * d)
+        (header-long (τ .cycle) (τ .users) (τ .permissions) (τ .roles) (length (τ .entries)) (length (τ .rows))) (omega (arith, ed)) (omega arith)
+        ∙ ap₂ (λ (x y : ℕ). tableBytes τ ++ drop (16 + x + y) out) le lr
+
+  -- what laying out the fields asks
+  pub lay-asks : (rotaJudged s ≡ 0) × (l .counts .cycle ≡ cycleOf s) × (l .counts .hours ≡ hoursOf s)
+  lay-asks = let q = layout-is s l w in (w .clear, q .counts .cycle, q .counts .hours)
+
+  -- what becomes of an area once its header is written or not
+  module _ (area : List ℕ) (k : Count) (q : CountedTo s (length area) k) (b : Bool) (after : List ℕ) (eb : b ≡ leb (lengthWith (k .entries) (k .rows)) (length area))
+      (ea : after ≡ started area (countsWith l (k .entries) (k .rows)) (lengthWith (k .entries) (k .rows))) where
+    begun : b ≡ true → (lengthWith (k .entries) (k .rows) ≤ length area)
+        × (after ≡ sets area 0 (headerBytes (l .counts .cycle) (l .counts .users) (l .counts .permissions) (l .counts .roles) (k .entries) (k .rows)))
+    begun t = started-yes area (countsWith l (k .entries) (k .rows)) (lengthWith (k .entries) (k .rows)) b after eb t ea
+
+    fits-so : lengthWith (k .entries) (k .rows) ≤ length area → sizeOf (rewrite (rotaOf s)) ≤ length area
+    unfolding sizeOf
+    fits-so h = let z = q .exact h in omega (arith, z .0, z .1)
+
+    pub can-write : b ≡ true → (k .entries ≡ length (rewrite (rotaOf s) .entries)) × (sizeOf (rewrite (rotaOf s)) ≤ length after)
+    can-write t =
+        let g = begun t in (
+          q .exact (g .0) .0,
+          omega (
+            arith,
+            fits-so (g .0),
+            ap length (g .1),
+            length-sets area 0 (headerBytes (l .counts .cycle) (l .counts .users) (l .counts .permissions) (l .counts .roles) (k .entries) (k .rows)),
+          ),
+        )
+
+    pub has-written : b ≡ true → (last : List ℕ)
+        → last ≡ sets (sets after 16 (joined entryBytes (rewrite (rotaOf s) .entries))) (16 + 17 * k .entries) (joined rowBytes (rewrite (rotaOf s) .rows))
+        → (given (record { derived = k .entries; rows = k .rows; length = lengthWith (k .entries) (k .rows) }) ≡ rewriteOutcome s (length area)) × (last ≡ areaAfter s area)
+    has-written t last e =
+        let g = begun t in
+        let z = q .exact (g .0) in
+        let f = fits-so (g .0) in
+        written s area (w .clear) (k .entries) (k .rows) (lengthWith (k .entries) (k .rows)) last f (z .0) (z .1) refl
+        (table-written (k .entries) (k .rows) (z .0) (z .1) area after last f (g .1) e)
+
+    pub has-not : b ≡ false → (refused 20 ≡ rewriteOutcome s (length area)) × (after ≡ areaAfter s area)
+    has-not t =
+        let g = started-no area (countsWith l (k .entries) (k .rows)) (lengthWith (k .entries) (k .rows)) b after eb t ea in
+        let z = too-long s area (w .clear) (q .over (g .0)) in
+        (z .0, g .1 ∙ z .1)

@@ -1,0 +1,79 @@
+use native.Mathlib.Omega.{arith}
+use Prim.Native.Nat.{_-_}
+use Rattle.rota.specs.RotaBytes.{rolesOf}
+use Rattle.rewriting.proofs.CountLaws.{Before, before-none, before-next, counted-over, counted-all}
+use Rattle.rewriting.proofs.LocatedLaws.{roles-are}
+use Rattle.rewriting.proofs.count_all.Statement.{statement}
+use Rattle.rewriting.proofs.count_all.Tie as tie
+
+abbrev Inv-loop : tie.InvT-loop
+Inv-loop s l masks n room us₀ ps₀ marks₀ roles d₀ rows₀ r₀ us ps marks d rows r = Before s d rows r
+
+abbrev μ-loop : tie.MeasureT-loop
+μ-loop s l masks n room us₀ ps₀ marks₀ roles d₀ rows₀ r₀ us ps marks d rows r = rolesOf s - r
+
+cast-roles : tie.Need-cast-roles Inv-loop μ-loop
+cast-roles c = let a = c .before .before .before .args in omega (arith, roles-are (a .s .now) (a .l) (c .before .before .before .pre .0))
+
+loop-holds : tie.Need-loop-holds Inv-loop μ-loop
+loop-holds c = before-none _
+
+derive-role-requires : tie.Need-derive-role-requires Inv-loop μ-loop
+derive-role-requires c κs = let a = c .before .before .before .before .before .before .before .before .before .args in let p = c .before .before .before .before .before .before .before .before .before .pre in (p .0, omega (arith, roles-are (a .s .now) (a .l) (p .0)), record { few = p .1; for-masks = omega arith; for-users = omega arith; for-permissions = omega arith; for-marks = omega arith }, p .2)
+
+add-d : tie.Need-add-d Inv-loop μ-loop
+add-d c = omega (arith, c .before .before .before .before .before .before .before .loop .inv .few, c .before .derive-role .ensures .few, c .before .before .before .before .before .before .before .loop .inv .within, roles-are (c .before .before .before .before .before .before .before .before .before .before .before .args .s .now) (c .before .before .before .before .before .before .before .before .before .before .before .args .l) (c .before .before .before .before .before .before .before .before .before .before .before .pre .0))
+
+add-rows : tie.Need-add-rows Inv-loop μ-loop
+add-rows c = omega (arith, c .before .before .before .before .before .before .before .before .loop .inv .few-rows, c .before .before .derive-role .ensures .few-rows, c .before .before .before .before .before .before .before .before .loop .inv .within, roles-are (c .before .before .before .before .before .before .before .before .before .before .before .before .args .s .now) (c .before .before .before .before .before .before .before .before .before .before .before .before .args .l) (c .before .before .before .before .before .before .before .before .before .before .before .before .pre .0))
+
+mul-if1 : tie.Need-mul-if1 Inv-loop μ-loop
+mul-if1 c = omega (arith, c .before .before .before .before .before .before .before .before .loop .inv .few, c .before .before .derive-role .ensures .few, c .before .before .before .before .before .before .before .before .loop .inv .within, roles-are (c .before .before .before .before .before .before .before .before .before .before .before .before .args .s .now) (c .before .before .before .before .before .before .before .before .before .before .before .before .args .l) (c .before .before .before .before .before .before .before .before .before .before .before .before .pre .0))
+
+add-if1 : tie.Need-add-if1 Inv-loop μ-loop
+add-if1 c = omega (arith, c .before .before .before .before .before .before .before .before .loop .inv .few, c .before .before .derive-role .ensures .few, c .before .before .before .before .before .before .before .before .loop .inv .within, roles-are (c .before .before .before .before .before .before .before .before .before .before .before .before .args .s .now) (c .before .before .before .before .before .before .before .before .before .before .before .before .args .l) (c .before .before .before .before .before .before .before .before .before .before .before .before .pre .0))
+
+mul-if1-2 : tie.Need-mul-if1-2 Inv-loop μ-loop
+mul-if1-2 c = omega (arith, c .before .before .before .before .before .before .before .before .loop .inv .few-rows, c .before .before .derive-role .ensures .few-rows, c .before .before .before .before .before .before .before .before .loop .inv .within, roles-are (c .before .before .before .before .before .before .before .before .before .before .before .before .args .s .now) (c .before .before .before .before .before .before .before .before .before .before .before .before .args .l) (c .before .before .before .before .before .before .before .before .before .before .before .before .pre .0))
+
+add-if1-2 : tie.Need-add-if1-2 Inv-loop μ-loop
+add-if1-2 c = omega (arith, c .before .before .before .before .before .before .before .before .loop .inv, c .before .before .derive-role .ensures, roles-are (c .before .before .before .before .before .before .before .before .before .before .before .before .args .s .now) (c .before .before .before .before .before .before .before .before .before .before .before .before .args .l) (c .before .before .before .before .before .before .before .before .before .before .before .before .pre .0))
+
+returns : tie.Need-returns Inv-loop μ-loop
+returns c = let a = c .before .before .before .before .before .before .before .before .before .before .before .before .before .args in let p = c .before .before .before .before .before .before .before .before .before .before .before .before .before .pre in let l = c .before .before .before .before .before .before .before .before .before .loop in let q = roles-are (a .s .now) (a .l) (p .0) in
+    counted-over (a .s .now) _ _ _ (before-next (a .s .now) (l .d) (l .rows) (l .r) (l .inv) (a .n) _ _ _ _ (omega (arith, c .before .before .before .before .before .before .before .before .loop-test .taken)) (p .1) (c .before .before .before .derive-role .ensures)) (a .room) (q .1) (c .if1 .taken)
+
+add-r : tie.Need-add-r Inv-loop μ-loop
+add-r c = omega (arith, c .before .before .before .before .before .before .before .before .loop-test .taken, roles-are (c .before .before .before .before .before .before .before .before .before .before .before .before .before .args .s .now) (c .before .before .before .before .before .before .before .before .before .before .before .before .before .args .l) (c .before .before .before .before .before .before .before .before .before .before .before .before .before .pre .0))
+
+loop-less : tie.Need-loop-less Inv-loop μ-loop
+loop-less c = omega (arith, c .before .before .before .before .before .before .before .before .loop-test .taken, roles-are (c .before .before .before .before .before .before .before .before .before .before .before .before .before .args .s .now) (c .before .before .before .before .before .before .before .before .before .before .before .before .before .args .l) (c .before .before .before .before .before .before .before .before .before .before .before .before .before .pre .0))
+
+loop-again : tie.Need-loop-again Inv-loop μ-loop
+loop-again c = let a = c .before .before .before .before .before .before .before .before .before .before .before .before .before .args in let p = c .before .before .before .before .before .before .before .before .before .before .before .before .before .pre in let l = c .before .before .before .before .before .before .before .before .before .loop in
+    before-next (a .s .now) (l .d) (l .rows) (l .r) (l .inv) (a .n) _ _ _ _ (omega (arith, c .before .before .before .before .before .before .before .before .loop-test .taken, roles-are (a .s .now) (a .l) (p .0))) (p .1) (c .before .before .before .derive-role .ensures)
+
+returns-2 : tie.Need-returns-2 Inv-loop μ-loop
+returns-2 c = let a = c .before .before .before .before .before .args in let l = c .before .loop in let q = roles-are (a .s .now) (a .l) (c .before .before .before .before .before .pre .0) in
+    counted-all (a .s .now) (l .d) (l .rows) (l .r) (l .inv) (a .room) (q .1) (omega arith)
+
+pub count-all-spec : {M : Type 1} → statement M
+count-all-spec =
+    tie.close
+    (tie.spec
+    Inv-loop
+    μ-loop
+    cast-roles
+    loop-holds
+    derive-role-requires
+    add-d
+    add-rows
+    mul-if1
+    add-if1
+    mul-if1-2
+    add-if1-2
+    returns
+    add-r
+    loop-less
+    loop-again
+    returns-2)

@@ -1,0 +1,42 @@
+use mathlib.Core.Path.{ap, sym, _∙_}
+use Rattle.rota.specs.Answers.{layoutGiven}
+use Rattle.rota.proofs.ReadLaws.{located}
+use Rattle.rewriting.proofs.AnswerLaws.{not-a-rota}
+use borrow.Author.Needs.{needs}
+use Rattle.rewriting.proofs.rewrite.Statement.{statement}
+use Rattle.rewriting.proofs.rewrite.Tie as tie
+
+locate-requires : tie.Need-locate-requires
+locate-requires c κs = search needs
+
+enum-known-code : tie.Need-enum-known-code
+enum-known-code c = search needs
+
+enum-known-l : tie.Need-enum-known-l
+enum-known-l c = search needs
+
+rewrite-located-requires : tie.Need-rewrite-located-requires
+rewrite-located-requires c κs = let a = c .before .before .before .before .before .before .before .args in
+    let q = located (a .s .now) _ (ap layoutGiven (sym (c .before .before .l .given .1)) ∙ c .before .before .before .before .locate .ensures) in
+    record { clear = q .0; layout = q .1 }
+
+returns : tie.Need-returns
+returns c = let a = c .before .before .before .before .before .before .args in not-a-rota (a .s .now) (a .out .now) _ (ap layoutGiven (sym (c .before .code .given .1)) ∙ c .before .before .before .locate .ensures)
+
+same-length : tie.Need-same-length
+same-length c = search needs
+
+returns-2 : tie.Need-returns-2
+returns-2 c = search needs
+
+pub rewrite-spec : {M : Type 1} → statement M
+rewrite-spec =
+    tie.close
+    (tie.spec
+    locate-requires
+    enum-known-code
+    enum-known-l
+    rewrite-located-requires
+    returns
+    same-length
+    returns-2)

@@ -1,0 +1,70 @@
+use native.Mathlib.Omega.{arith}
+use Rattle.rewriting.proofs.TableLaws.{header-fits, can-write, has-written, has-not}
+use borrow.Author.Needs.{needs}
+use Rattle.rewriting.proofs.write_table.Statement.{statement}
+use Rattle.rewriting.proofs.write_table.Tie as tie
+
+mul-size : tie.Need-mul-size
+mul-size c = search needs
+
+add-size : tie.Need-add-size
+add-size c = search needs
+
+mul-size-2 : tie.Need-mul-size-2
+mul-size-2 c = search needs
+
+add-size-2 : tie.Need-add-size-2
+add-size-2 c = search needs
+
+cast-t21 : tie.Need-cast-t21
+cast-t21 c = search needs
+
+cast-t22 : tie.Need-cast-t22
+cast-t22 c = search needs
+
+start-table-requires : tie.Need-start-table-requires
+start-table-requires c κs = let a = c .before .before .before .before .args in (header-fits (a .s .now) (a .l) (c .before .before .before .before .pre .0) (a .k .entries) (a .k .rows), omega arith)
+
+write-all-requires : tie.Need-write-all-requires
+write-all-requires c κs = let a = c .before .before .before .before .before .before .before .before .before .before .before .before .args in let p = c .before .before .before .before .before .before .before .before .before .before .before .before .pre in let t = c .before .before .before .before .before .before .before .start-table in
+    let g = can-write (a .s .now) (a .l) (p .0) (a .out .now) (a .k) (p .2) (t .result) _ (t .ensures .0) (t .ensures .1) (c .before .before .before .before .if1 .taken) in
+    ((p .0, p .1), g)
+
+cast-t32 : tie.Need-cast-t32
+cast-t32 c = search needs
+
+cast-t33 : tie.Need-cast-t33
+cast-t33 c = search needs
+
+same-length : tie.Need-same-length
+same-length c = search needs
+
+returns : tie.Need-returns
+returns c = let a = c .before .before .before .before .before .before .before .before .before .before .before .before .before .before .before .args in let p = c .before .before .before .before .before .before .before .before .before .before .before .before .before .before .before .pre in let t = c .before .before .before .before .before .before .before .before .before .before .start-table in
+    has-written (a .s .now) (a .l) (p .0) (a .out .now) (a .k) (p .2) (t .result) _ (t .ensures .0) (t .ensures .1) (c .before .before .before .before .before .before .before .if1 .taken) _ (c .before .before .write-all .ensures)
+
+same-length-2 : tie.Need-same-length-2
+same-length-2 c = search needs
+
+returns-2 : tie.Need-returns-2
+returns-2 c = let a = c .before .before .before .before .before .before .before .before .args in let p = c .before .before .before .before .before .before .before .before .pre in let t = c .before .before .before .start-table in
+    has-not (a .s .now) (a .l) (p .0) (a .out .now) (a .k) (p .2) (t .result) _ (t .ensures .0) (t .ensures .1) (c .if1 .left)
+
+pub write-table-spec : {M : Type 1} → statement M
+write-table-spec =
+    tie.close
+    (tie.spec
+    mul-size
+    add-size
+    mul-size-2
+    add-size-2
+    cast-t21
+    cast-t22
+    start-table-requires
+    write-all-requires
+    cast-t32
+    cast-t33
+    same-length
+    returns
+    same-length-2
+    returns-2)

@@ -1,0 +1,90 @@
+-- The parts of the calls, by the test at which each ends.
+-- Assumes nothing.
+use Prim.Native.Nat.{ℕ, zero, suc, _^_, _<_, _≤_}
+use mathlib.Core.Path.{_≡_, refl, sym, ap, _∙_}
+use mathlib.Core.Bool.{Bool, true, false}
+use borrow.Author.Tests.{le-leb, lt-leb, ltb-true, ltb-false, leb-false}
+use lib.Dec.{leb, ltb}
+use Rattle.ground.specs.Judgement.{refuse, _orElse_}
+use Rattle.ground.specs.Outcome.{refused, given}
+use Rattle.ground.proofs.BoolLaws.{or-no}
+use Rattle.ground.proofs.JudgementLaws.{orElse-ne, orElse-zero, refuse-no}
+use Rattle.bitset.specs.Sets.{intersection, difference, count}
+use Rattle.minutes.specs.Minutes.{E}
+use Rattle.service.specs.Machine.{Gift, closed, state}
+use Rattle.service.specs.Core.{stateBy, advanceBy, openBy, closeBy, askBy, settled, movedStep}
+use Rattle.service.specs.declared.Service.{Service}
+
+-- a first judgement n that refuses; one that does not, before b
+pub first : (n a b : ℕ) → n ≡ a → (n ≡ 0 → ⊥) → n ≡ a orElse b
+first n a b e h = e ∙ sym (orElse-ne a b (λ z. h (e ∙ z)))
+
+pub onward : (n a b m : ℕ) → n ≡ a → n ≡ 0 → m ≡ b → m ≡ a orElse b
+unfolding _orElse_
+onward n a b m e z h = rw (← e, z) h
+
+-- 40
+module _ (users : ℕ) (σ : Service) where
+  pub state-late : E ≤ σ .now → 40 ≡ stateBy users σ
+  unfolding stateBy refuse
+  state-late h = rw (le-leb E (σ .now) h) refl
+
+  module _ (early : σ .now < E) (b : Bool) (eb : b ≡ ltb (σ .«open») (2 ^ users)) where
+    pub state-fine : b ≡ true → 0 ≡ stateBy users σ
+    unfolding stateBy refuse
+    state-fine t = rw (lt-leb E (σ .now) early, lt-leb (2 ^ users) (σ .«open») (ltb-true _ _ (sym eb ∙ t))) refl
+
+    pub state-over : b ≡ false → 40 ≡ stateBy users σ
+    unfolding stateBy refuse
+    state-over t = rw (lt-leb E (σ .now) early, le-leb (2 ^ users) (σ .«open») (ltb-false _ _ (sym eb ∙ t))) refl
+
+  pub state-early : (n : ℕ) → n ≡ stateBy users σ → n ≡ 0 → σ .now < E
+  unfolding stateBy
+  state-early n e z = leb-false E (σ .now) (or-no _ _ (refuse-no 39 _ (sym e ∙ z)) .0)
+
+  -- what the judgements of calls that are not refused tell
+  pub advance-early : (m n : ℕ) → n ≡ stateBy users σ orElse advanceBy σ m → n ≡ 0 → m < E
+  unfolding advanceBy
+  advance-early m n e z = leb-false E m (refuse-no 32 _ (orElse-zero _ _ (orElse-zero (stateBy users σ) _ (sym e ∙ z) .1) .0))
+
+  pub close-inside : (u n : ℕ) → n ≡ stateBy users σ orElse closeBy users σ u → n ≡ 0 → u < users
+  unfolding closeBy
+  close-inside u n e z = leb-false users u (refuse-no 33 _ (orElse-zero _ _ (orElse-zero (stateBy users σ) _ (sym e ∙ z) .1) .0))
+
+  pub open-inside : (holders u n : ℕ) → n ≡ openBy users holders σ u → n ≡ 0 → u < users
+  unfolding openBy
+  open-inside holders u n e z = leb-false users u (refuse-no 33 _ (orElse-zero _ _ (sym e ∙ z) .0))
+
+  module _ (permissions u p n : ℕ) (e : n ≡ stateBy users σ orElse askBy users permissions σ u p) (z : n ≡ 0) where
+    pub ask-early : σ .now < E
+    ask-early = state-early 0 (sym (orElse-zero (stateBy users σ) _ (sym e ∙ z) .0)) refl
+
+    pub ask-inside : (u < users) × (p < permissions)
+    unfolding askBy
+    ask-inside =
+        let a = orElse-zero (refuse 34 (leb users u)) _ (orElse-zero (stateBy users σ) _ (sym e ∙ z) .1) in
+        let b = orElse-zero (refuse 35 (leb permissions p)) _ (a .1) in
+        (leb-false users u (refuse-no 33 _ (a .0)), leb-false permissions p (refuse-no 34 _ (b .0)))
+
+-- what a call leaves by its judgement
+module _ (j : ℕ) (g : Gift) (τ σ : Service) where
+  pub settled-refused : (n : ℕ) → n ≡ j → (n ≡ 0 → ⊥) → record { outcome = refused n; after = σ } ≡ settled j g τ σ
+  unfolding settled
+  settled-refused n e h = go n h ∙ ap (λ (k : ℕ). settled k g τ σ) e
+    where
+      go : (k : ℕ) → (k ≡ 0 → ⊥) → record { outcome = refused k; after = σ } ≡ settled k g τ σ
+      go zero w = absurd (w refl)
+      go (suc k) w = refl
+
+  pub settled-given : (n : ℕ) → n ≡ j → n ≡ 0 → record { outcome = given g; after = τ } ≡ settled j g τ σ
+  unfolding settled
+  settled-given n e z = rw (← e, z) refl
+
+-- a state whose set is known by another name
+pub settled-as : (j n now x y : ℕ) (g : Gift) (σ : Service) → x ≡ y → n ≡ j → n ≡ 0 → record { outcome = given g; after = state now x } ≡ settled j g (state now y) σ
+settled-as j n now x y g σ e q z = ap (λ (a : ℕ). record { outcome = given g; after = state now a }) e ∙ settled-given j g (state now y) σ n q z
+
+pub moved-as : (holders : ℕ) (σ : Service) (m stays n : ℕ) → stays ≡ intersection (σ .«open») holders → n ≡ count (difference (σ .«open») stays)
+    → record { outcome = given (closed n); after = state m stays } ≡ movedStep holders σ m
+unfolding movedStep
+moved-as holders σ m stays n es en = rw (en, es) refl

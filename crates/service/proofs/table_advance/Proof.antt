@@ -1,0 +1,50 @@
+use Rattle.service.proofs.TableReady.{stopped, reached, ready}
+use Rattle.service.proofs.StepLaws.{bytes-refused, advance-refused, advance-moved}
+use Rattle.table.specs.TableBytes.{tableOf}
+use Rattle.table.specs.Table.{policyOf}
+use mathlib.Core.Path.{_∙_}
+use borrow.Author.Needs.{needs}
+use Rattle.service.proofs.table_advance.Statement.{statement}
+use Rattle.service.proofs.table_advance.Tie as tie
+
+read-requires : tie.Need-read-requires
+read-requires c κs = search needs
+
+enum-known-code : tie.Need-enum-known-code
+enum-known-code c = search needs
+
+enum-known-n : tie.Need-enum-known-n
+enum-known-n c = search needs
+
+judge-advance-requires : tie.Need-judge-advance-requires
+judge-advance-requires c κs = ready (reached _ _ (c .before .before .before .read .ensures) (c .before .n .given .1)) .few
+
+returns : tie.Need-returns
+returns c = advance-refused (ready (reached _ _ (c .before .before .before .before .before .read .ensures) (c .before .before .before .n .given .1))) _ _ _ (c .before .judge-advance .ensures) (c .if1 .taken)
+
+gather-requires : tie.Need-gather-requires
+gather-requires c κs = reached _ _ (c .before .before .before .before .before .read .ensures) (c .before .before .before .n .given .1)
+
+moved-requires : tie.Need-moved-requires
+moved-requires c κs = search needs
+
+returns-2 : tie.Need-returns-2
+returns-2 c = bytes-refused (policyOf (tableOf (c .before .before .before .before .before .args .s .now))) _ _ _ _ (stopped _ _ (c .before .before .before .read .ensures) (c .before .code .given .1))
+
+returns-3 : tie.Need-returns-3
+returns-3 c = c .moved .ensures
+    ∙ advance-moved (ready (reached _ _ (c .before .before .before .before .before .before .before .read .ensures) (c .before .before .before .before .before .n .given .1))) _ _ _ _ (c .before .before .before .judge-advance .ensures) (c .before .before .if1 .left) (c .before .gather .ensures)
+
+pub table-advance-spec : {M : Type 1} → statement M
+table-advance-spec =
+    tie.close
+    (tie.spec
+    read-requires
+    enum-known-code
+    enum-known-n
+    judge-advance-requires
+    returns
+    gather-requires
+    moved-requires
+    returns-2
+    returns-3)
