@@ -1,11 +1,18 @@
-//! Links the archive of the proved code. It is needed only where a test program is linked,
-//! so everything compiles without it.
+//! Links the archives of the proved code. They are needed only where a test program is
+//! linked, so everything compiles without them.
 
 use std::path::Path;
 
 fn main() {
     let manifest = std::env::var("CARGO_MANIFEST_DIR").expect("cargo sets it");
-    let archive = Path::new(&manifest).join("../../target/staticlib/libprobe.a");
-    println!("cargo::rerun-if-changed={}", archive.display());
-    println!("cargo::rustc-link-arg={}", archive.display());
+    let mut names = vec!["probe"];
+    if std::env::var("CARGO_FEATURE_LENT").is_ok() {
+        names.push("service");
+    }
+    for name in names {
+        let file = format!("../../target/staticlib/lib{name}.a");
+        let archive = Path::new(&manifest).join(file);
+        println!("cargo::rerun-if-changed={}", archive.display());
+        println!("cargo::rustc-link-arg={}", archive.display());
+    }
 }

@@ -408,7 +408,8 @@ fn table_ask_told(service: Service, s: &[u8], u: u32, p: u32) -> Stepped
 }
 
 // The four calls on a lent record, with a rota and with a table.
-pub fn lent_rota_advance(service: &mut Service, s: &[u8], m: u32) -> Told
+#[no_mangle]
+pub extern "C" fn lent_rota_advance(service: &mut Service, s: &[u8], m: u32) -> Told
     ensures { λ r. ⌜ leaving (now (service .exit)) r ≡ steppedBy (serviceStep (rotaJudged (now (s .entry))) (rotaPolicy (rotaOf (now (s .entry)))) (now (service .entry)) (advance m)) ⌝ }
 {
     let r = rota_advance_told(*service, s, m);
@@ -416,7 +417,8 @@ pub fn lent_rota_advance(service: &mut Service, s: &[u8], m: u32) -> Told
     r.told
 }
 
-pub fn lent_rota_open(service: &mut Service, s: &[u8], u: u32) -> Told
+#[no_mangle]
+pub extern "C" fn lent_rota_open(service: &mut Service, s: &[u8], u: u32) -> Told
     ensures { λ r. ⌜ leaving (now (service .exit)) r ≡ steppedBy (serviceStep (rotaJudged (now (s .entry))) (rotaPolicy (rotaOf (now (s .entry)))) (now (service .entry)) («open» u)) ⌝ }
 {
     let r = rota_open_told(*service, s, u);
@@ -424,7 +426,8 @@ pub fn lent_rota_open(service: &mut Service, s: &[u8], u: u32) -> Told
     r.told
 }
 
-pub fn lent_rota_close(service: &mut Service, s: &[u8], u: u32) -> Told
+#[no_mangle]
+pub extern "C" fn lent_rota_close(service: &mut Service, s: &[u8], u: u32) -> Told
     ensures { λ r. ⌜ leaving (now (service .exit)) r ≡ steppedBy (serviceStep (rotaJudged (now (s .entry))) (rotaPolicy (rotaOf (now (s .entry)))) (now (service .entry)) (close u)) ⌝ }
 {
     let r = rota_close_told(*service, s, u);
@@ -432,7 +435,8 @@ pub fn lent_rota_close(service: &mut Service, s: &[u8], u: u32) -> Told
     r.told
 }
 
-pub fn lent_rota_ask(service: &mut Service, s: &[u8], u: u32, p: u32) -> Told
+#[no_mangle]
+pub extern "C" fn lent_rota_ask(service: &mut Service, s: &[u8], u: u32, p: u32) -> Told
     ensures { λ r. ⌜ leaving (now (service .exit)) r ≡ steppedBy (serviceStep (rotaJudged (now (s .entry))) (rotaPolicy (rotaOf (now (s .entry)))) (now (service .entry)) (ask u p)) ⌝ }
 {
     let r = rota_ask_told(*service, s, u, p);
@@ -440,7 +444,8 @@ pub fn lent_rota_ask(service: &mut Service, s: &[u8], u: u32, p: u32) -> Told
     r.told
 }
 
-pub fn lent_table_advance(service: &mut Service, s: &[u8], m: u32) -> Told
+#[no_mangle]
+pub extern "C" fn lent_table_advance(service: &mut Service, s: &[u8], m: u32) -> Told
     ensures { λ r. ⌜ leaving (now (service .exit)) r ≡ steppedBy (serviceStep (tableJudged (now (s .entry))) (tablePolicy (tableOf (now (s .entry)))) (now (service .entry)) (advance m)) ⌝ }
 {
     let r = table_advance_told(*service, s, m);
@@ -448,7 +453,8 @@ pub fn lent_table_advance(service: &mut Service, s: &[u8], m: u32) -> Told
     r.told
 }
 
-pub fn lent_table_open(service: &mut Service, s: &[u8], u: u32) -> Told
+#[no_mangle]
+pub extern "C" fn lent_table_open(service: &mut Service, s: &[u8], u: u32) -> Told
     ensures { λ r. ⌜ leaving (now (service .exit)) r ≡ steppedBy (serviceStep (tableJudged (now (s .entry))) (tablePolicy (tableOf (now (s .entry)))) (now (service .entry)) («open» u)) ⌝ }
 {
     let r = table_open_told(*service, s, u);
@@ -456,7 +462,8 @@ pub fn lent_table_open(service: &mut Service, s: &[u8], u: u32) -> Told
     r.told
 }
 
-pub fn lent_table_close(service: &mut Service, s: &[u8], u: u32) -> Told
+#[no_mangle]
+pub extern "C" fn lent_table_close(service: &mut Service, s: &[u8], u: u32) -> Told
     ensures { λ r. ⌜ leaving (now (service .exit)) r ≡ steppedBy (serviceStep (tableJudged (now (s .entry))) (tablePolicy (tableOf (now (s .entry)))) (now (service .entry)) (close u)) ⌝ }
 {
     let r = table_close_told(*service, s, u);
@@ -464,7 +471,8 @@ pub fn lent_table_close(service: &mut Service, s: &[u8], u: u32) -> Told
     r.told
 }
 
-pub fn lent_table_ask(service: &mut Service, s: &[u8], u: u32, p: u32) -> Told
+#[no_mangle]
+pub extern "C" fn lent_table_ask(service: &mut Service, s: &[u8], u: u32, p: u32) -> Told
     ensures { λ r. ⌜ leaving (now (service .exit)) r ≡ steppedBy (serviceStep (tableJudged (now (s .entry))) (tablePolicy (tableOf (now (s .entry)))) (now (service .entry)) (ask u p)) ⌝ }
 {
     let r = table_ask_told(*service, s, u, p);
