@@ -6,7 +6,7 @@ use comparison::case::{Case, Tally, cases, print};
 use comparison::expected::rewriting::{Whole, whole};
 use comparison::generate::{Sets, fine_rota};
 use comparison::{data, expected, ffi, generate};
-use reference::hours::{Hours, HoursRef, Pair};
+use reference::hours::{Hours, HoursRef};
 use reference::rota::{Rota, Row};
 use reference::table::Table;
 use reference::{END, Refusal};
@@ -75,15 +75,6 @@ fn compare_areas(case: &mut Case, tally: &mut Tally, lent: &Lent) {
     }
 }
 
-fn hours(begin: u32, end: u32, pairs: &[(u16, u16)]) -> Hours {
-    let pairs = pairs.iter().map(|&(offset, length)| Pair { offset, length }).collect();
-    Hours { begin, end, pairs }
-}
-
-fn row(number: u8, role: u8, hours: HoursRef) -> Row {
-    Row { number, role, hours }
-}
-
 fn small() -> Rota {
     Rota::parse(&data::small_rota()).expect("well formed")
 }
@@ -118,10 +109,10 @@ fn small_rota() {
 #[test]
 fn a_field_without_a_minute_is_not_kept() {
     let rota = Rota {
-        hours: vec![hours(3, 5, &[(0, 10)]), hours(0, END, &[(6, 2)])],
+        hours: vec![Hours::new(3, 5, &[(0, 10)]), Hours::new(0, END, &[(6, 2)])],
         users: 1,
-        user_rows: vec![row(0, 0, HoursRef::Always)],
-        permission_rows: vec![row(0, 0, HoursRef::Always)],
+        user_rows: vec![Row::new(0, 0, HoursRef::Always)],
+        permission_rows: vec![Row::new(0, 0, HoursRef::Always)],
         ..small()
     };
     let table = table_of(&rota);
@@ -145,7 +136,7 @@ fn five_doctors() {
         [&[0, 1, 2, 3, 4, 6], &[1, 6], &[1, 3, 4, 6], &[0, 1, 2, 5, 6], &[3, 4]];
     let day_time = |days: &[u16]| -> Hours {
         let pairs: Vec<_> = days.iter().map(|day| (1_440 * day + 9 * 60, 12 * 60)).collect();
-        hours(0, END, &pairs)
+        Hours::new(0, END, &pairs)
     };
     let rota = Rota {
         cycle: 10_080,
@@ -153,8 +144,8 @@ fn five_doctors() {
         users: 5,
         permissions: 1,
         roles: vec![HoursRef::Always],
-        user_rows: (0..5).map(|doctor| row(doctor, 0, HoursRef::Numbered(doctor))).collect(),
-        permission_rows: vec![row(0, 0, HoursRef::Always)],
+        user_rows: (0..5).map(|doctor| Row::new(doctor, 0, HoursRef::Numbered(doctor))).collect(),
+        permission_rows: vec![Row::new(0, 0, HoursRef::Always)],
     };
     let table = table_of(&rota);
     // By first row: Monday, Tuesday, Thursday, Saturday.
@@ -177,13 +168,13 @@ fn five_doctors() {
 fn limits() {
     let mut tally = Tally::new("limits");
     let mut case = Case::new("limits", 0);
-    let everyone: Vec<Row> = (0..64).map(|number| row(number, 31, HoursRef::Always)).collect();
+    let everyone: Vec<Row> = (0..64).map(|number| Row::new(number, 31, HoursRef::Always)).collect();
     for cycle in [1, 2, 40_319, 40_320] {
         for (begin, end) in [(0, END), (0, 1), (END - 1, END), (END - 2, END - 1), (1, END)] {
             for (offset, length) in [(0, cycle), (0, 1), (cycle - 1, 1)] {
                 let rota = Rota {
                     cycle,
-                    hours: vec![hours(begin, end, &[(offset, length)])],
+                    hours: vec![Hours::new(begin, end, &[(offset, length)])],
                     users: 64,
                     permissions: 64,
                     roles: vec![HoursRef::Numbered(0); 32],
@@ -203,7 +194,7 @@ fn limits() {
     // Everything always, to the last bit: one row and both sets full.
     let whole_time = Rota {
         cycle: 40_320,
-        hours: vec![hours(0, END, &[(0, 40_320)])],
+        hours: vec![Hours::new(0, END, &[(0, 40_320)])],
         users: 64,
         permissions: 64,
         roles: vec![HoursRef::Always; 32],

@@ -1,8 +1,8 @@
 //! Rotas: read, asked, and asked who holds anything; well formed and damaged.
 
 use comparison::case::{Case, Tally, cases};
-use comparison::{expected, ffi, generate};
-use reference::hours::{Hours, HoursRef, Pair};
+use comparison::{data, expected, ffi, generate};
+use reference::hours::{Hours, HoursRef};
 use reference::rota::{Rota, Row};
 use reference::{END, Refusal};
 
@@ -59,19 +59,8 @@ fn compare_all(case: &mut Case, tally: &mut Tally, lent: &Lent, rota: &Rota, que
     compare_holders(case, tally, lent, t);
 }
 
-fn hours(begin: u32, end: u32, pairs: &[(u16, u16)]) -> Hours {
-    let pairs = pairs.iter().map(|&(offset, length)| Pair { offset, length }).collect();
-    Hours { begin, end, pairs }
-}
-
-fn row(number: u8, role: u8, hours: HoursRef) -> Row {
-    Row { number, role, hours }
-}
-
-/// The small rota, as its file holds it.
 fn small() -> Rota {
-    let path = concat!(env!("CARGO_MANIFEST_DIR"), "/../../data/small.rota");
-    Rota::parse(&std::fs::read(path).expect(path)).expect("well formed")
+    Rota::parse(&data::small_rota()).expect("well formed")
 }
 
 #[test]
@@ -116,20 +105,20 @@ fn limits() {
     }
     let mut with_hours =
         |record: Hours| read(Rota { hours: vec![record, s.hours[1].clone()], ..small() });
-    assert_eq!(with_hours(hours(0, END, &[(0, 10)])), 0);
-    assert_eq!(with_hours(hours(END - 1, END, &[(0, 10)])), 0);
-    assert_eq!(with_hours(hours(0, END + 1, &[(0, 10)])), 6);
-    assert_eq!(with_hours(hours(END, END, &[(0, 10)])), 6);
-    assert_eq!(with_hours(hours(6, 5, &[(0, 10)])), 6);
-    assert_eq!(with_hours(hours(0, 1, &[(0, 11)])), 8);
-    assert_eq!(with_hours(hours(0, 1, &[(9, 1)])), 0);
-    assert_eq!(with_hours(hours(0, 1, &[(9, 2)])), 8);
-    assert_eq!(with_hours(hours(0, 1, &[(65_535, 1)])), 8);
-    assert_eq!(with_hours(hours(0, 1, &[(0, 0)])), 8);
-    assert_eq!(with_hours(hours(0, 1, &[(0, 4), (4, 1)])), 8);
-    assert_eq!(with_hours(hours(0, 1, &[(0, 4), (5, 1)])), 0);
-    assert_eq!(with_hours(hours(0, 1, &[(5, 1), (0, 4)])), 8);
-    assert_eq!(with_hours(hours(0, 1, &[])), 7);
+    assert_eq!(with_hours(Hours::new(0, END, &[(0, 10)])), 0);
+    assert_eq!(with_hours(Hours::new(END - 1, END, &[(0, 10)])), 0);
+    assert_eq!(with_hours(Hours::new(0, END + 1, &[(0, 10)])), 6);
+    assert_eq!(with_hours(Hours::new(END, END, &[(0, 10)])), 6);
+    assert_eq!(with_hours(Hours::new(6, 5, &[(0, 10)])), 6);
+    assert_eq!(with_hours(Hours::new(0, 1, &[(0, 11)])), 8);
+    assert_eq!(with_hours(Hours::new(0, 1, &[(9, 1)])), 0);
+    assert_eq!(with_hours(Hours::new(0, 1, &[(9, 2)])), 8);
+    assert_eq!(with_hours(Hours::new(0, 1, &[(65_535, 1)])), 8);
+    assert_eq!(with_hours(Hours::new(0, 1, &[(0, 0)])), 8);
+    assert_eq!(with_hours(Hours::new(0, 1, &[(0, 4), (4, 1)])), 8);
+    assert_eq!(with_hours(Hours::new(0, 1, &[(0, 4), (5, 1)])), 0);
+    assert_eq!(with_hours(Hours::new(0, 1, &[(5, 1), (0, 4)])), 8);
+    assert_eq!(with_hours(Hours::new(0, 1, &[])), 7);
 
     let counted = |count, limit| if count > limit { 4 } else { 0 };
     for users in [2, 63, 64, 65, 255] {
@@ -143,17 +132,17 @@ fn limits() {
         assert_eq!(read(Rota { roles: vec![always; roles.into()], ..small() }), refusal);
     }
     for count in [2, 31, 32, 33, 255] {
-        let all = vec![hours(0, END, &[(0, 10)]); count.into()];
+        let all = vec![Hours::new(0, END, &[(0, 10)]); count.into()];
         assert_eq!(read(Rota { hours: all, ..small() }), counted(count, 32));
     }
     for count in [0, 1, 511, 512, 513, 65_535] {
         let refusal = if count > 512 { 4 } else { 0 };
-        let rows = vec![row(0, 0, always); count];
+        let rows = vec![Row::new(0, 0, always); count];
         assert_eq!(read(Rota { user_rows: rows.clone(), ..small() }), refusal);
         assert_eq!(read(Rota { permission_rows: rows.clone(), ..small() }), refusal);
     }
     // 256 pairs in all pass: in one record, in two, in 32.
-    let many = |count: u16| hours(0, 9, &(0..count).map(|i| (2 * i, 1)).collect::<Vec<_>>());
+    let many = |count: u16| Hours::new(0, 9, &(0..count).map(|i| (2 * i, 1)).collect::<Vec<_>>());
     let mut with_pairs = |counts: &[u16]| {
         let hours = counts.iter().map(|&count| many(count)).collect();
         read(Rota { cycle: 600, hours, roles: vec![always], user_rows: vec![], ..small() })
@@ -172,20 +161,23 @@ fn limits() {
         assert_eq!(read(Rota { roles: vec![HoursRef::Numbered(hours)], ..small() }), refusal);
     }
     let rows = [
-        (row(0, 0, always), 0),
-        (row(0, 0, HoursRef::Numbered(1)), 0),
-        (row(0, 0, HoursRef::Numbered(2)), 1),
-        (row(0, 0, HoursRef::Numbered(254)), 1),
-        (row(0, 1, always), 1),
-        (row(0, 255, always), 1),
-        (row(255, 0, always), 1),
+        (Row::new(0, 0, always), 0),
+        (Row::new(0, 0, HoursRef::Numbered(1)), 0),
+        (Row::new(0, 0, HoursRef::Numbered(2)), 1),
+        (Row::new(0, 0, HoursRef::Numbered(254)), 1),
+        (Row::new(0, 1, always), 1),
+        (Row::new(0, 255, always), 1),
+        (Row::new(255, 0, always), 1),
     ];
     for (bad, out) in rows {
-        assert_eq!(read(Rota { user_rows: vec![row(0, 0, always), bad], ..small() }), out * 11);
+        assert_eq!(
+            read(Rota { user_rows: vec![Row::new(0, 0, always), bad], ..small() }),
+            out * 11
+        );
         assert_eq!(read(Rota { permission_rows: vec![bad], ..small() }), out * 12);
     }
-    assert_eq!(read(Rota { user_rows: vec![row(2, 0, always)], ..small() }), 11);
-    assert_eq!(read(Rota { permission_rows: vec![row(1, 0, always)], ..small() }), 12);
+    assert_eq!(read(Rota { user_rows: vec![Row::new(2, 0, always)], ..small() }), 11);
+    assert_eq!(read(Rota { permission_rows: vec![Row::new(1, 0, always)], ..small() }), 12);
     tally.reached([0, 3, 4, 6, 7, 8, 10, 11, 12]);
 }
 

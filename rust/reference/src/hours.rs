@@ -61,6 +61,12 @@ impl HoursRef {
 }
 
 impl Hours {
+    /// A record with these pairs of offset and length; nothing is judged.
+    pub fn new(begin: u32, end: u32, pairs: &[(u16, u16)]) -> Hours {
+        let pairs = pairs.iter().map(|&(offset, length)| Pair { offset, length }).collect();
+        Hours { begin, end, pairs }
+    }
+
     /// Reads the record at byte `at`; the records before it have `total` pairs.
     pub fn parse(bytes: &[u8], at: usize, cycle: u32, total: u32) -> Result<Hours, Refusal> {
         let rest = bytes.get(at..).unwrap_or(&[]);

@@ -23,6 +23,12 @@ pub struct Row {
     pub hours: HoursRef,
 }
 
+impl Row {
+    pub fn new(number: u8, role: u8, hours: HoursRef) -> Row {
+        Row { number, role, hours }
+    }
+}
+
 #[derive(Clone, Debug, PartialEq, Eq)]
 pub struct Rota {
     pub cycle: u16,

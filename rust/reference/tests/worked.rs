@@ -14,25 +14,19 @@ fn data(name: &str) -> Vec<u8> {
     std::fs::read(&path).unwrap_or_else(|error| panic!("{path}: {error}"))
 }
 
-fn hours(begin: u32, end: u32, pairs: &[(u16, u16)]) -> Hours {
-    let pairs = pairs.iter().map(|&(offset, length)| Pair { offset, length }).collect();
-    Hours { begin, end, pairs }
-}
-
-fn row(number: u8, role: u8, hours: HoursRef) -> Row {
-    Row { number, role, hours }
-}
-
 /// S, as the text describes it.
 fn small() -> Rota {
     Rota {
         cycle: 10,
-        hours: vec![hours(0, 20, &[(0, 4), (6, 2)]), hours(10, 40, &[(2, 5)])],
+        hours: vec![Hours::new(0, 20, &[(0, 4), (6, 2)]), Hours::new(10, 40, &[(2, 5)])],
         users: 2,
         permissions: 1,
         roles: vec![HoursRef::Always],
-        user_rows: vec![row(0, 0, HoursRef::Numbered(0)), row(1, 0, HoursRef::Numbered(1))],
-        permission_rows: vec![row(0, 0, HoursRef::Always)],
+        user_rows: vec![
+            Row::new(0, 0, HoursRef::Numbered(0)),
+            Row::new(1, 0, HoursRef::Numbered(1)),
+        ],
+        permission_rows: vec![Row::new(0, 0, HoursRef::Always)],
     }
 }
 
@@ -81,12 +75,13 @@ fn listing_refusals() {
     // 16 + 17 + 16 × 4,096 bytes are over the area: 64 eras of 64 cells and more.
     let mut large = small();
     large.cycle = 2_000;
-    large.hours = (0..32).map(|i| hours(4_000 * (2 * i + 1), 4_000 * (2 * i + 2), &[])).collect();
+    large.hours =
+        (0..32).map(|i| Hours::new(4_000 * (2 * i + 1), 4_000 * (2 * i + 2), &[])).collect();
     for (i, record) in large.hours.iter_mut().enumerate() {
         record.pairs = vec![Pair { offset: 60 * i as u16 + 1, length: 30 }];
     }
-    large.user_rows = vec![row(0, 0, HoursRef::Always)];
-    large.permission_rows = vec![row(0, 0, HoursRef::Always)];
+    large.user_rows = vec![Row::new(0, 0, HoursRef::Always)];
+    large.permission_rows = vec![Row::new(0, 0, HoursRef::Always)];
     assert_eq!(rewriting::table(&large).rows.len(), 65 * 65);
     assert_eq!(listing::program(&large.encode()), "refused 20\n");
 }
@@ -163,9 +158,9 @@ fn odd_states() {
 #[test]
 fn a_field_without_a_minute_is_not_kept() {
     let rota = Rota {
-        hours: vec![hours(3, 5, &[(0, 10)]), hours(0, END, &[(6, 2)])],
+        hours: vec![Hours::new(3, 5, &[(0, 10)]), Hours::new(0, END, &[(6, 2)])],
         users: 1,
-        user_rows: vec![row(0, 0, HoursRef::Always)],
+        user_rows: vec![Row::new(0, 0, HoursRef::Always)],
         ..small()
     };
     let table = rewriting::table(&rota);
@@ -203,42 +198,42 @@ fn rota_limits() {
     assert_eq!(read(with_cycle(0)), Err(3));
     assert_eq!(read(with_cycle(40_321)), Err(3));
     let with_hours = |record| Rota { hours: vec![record, small().hours[1].clone()], ..small() };
-    assert_eq!(read(with_hours(hours(0, END, &[(0, 10)]))), Ok(()));
-    assert_eq!(read(with_hours(hours(0, END + 1, &[(0, 10)]))), Err(6));
-    assert_eq!(read(with_hours(hours(0, END, &[(0, 11)]))), Err(8));
+    assert_eq!(read(with_hours(Hours::new(0, END, &[(0, 10)]))), Ok(()));
+    assert_eq!(read(with_hours(Hours::new(0, END + 1, &[(0, 10)]))), Err(6));
+    assert_eq!(read(with_hours(Hours::new(0, END, &[(0, 11)]))), Err(8));
     let mut bytes = small().encode();
     bytes.push(0);
     assert_eq!(Rota::parse(&bytes), Err(9));
     assert_eq!(Rota::parse(&bytes[..53]), Err(9));
     assert_eq!(Rota::parse(&bytes[..11]), Err(1));
     let with_row = |row| Rota { user_rows: vec![row, row], ..small() };
-    assert_eq!(read(with_row(row(2, 0, HoursRef::Always))), Err(11));
-    assert_eq!(read(with_row(row(1, 1, HoursRef::Always))), Err(11));
-    assert_eq!(read(with_row(row(1, 0, HoursRef::Numbered(2)))), Err(11));
-    assert_eq!(read(with_row(row(1, 0, HoursRef::Numbered(1)))), Ok(()));
+    assert_eq!(read(with_row(Row::new(2, 0, HoursRef::Always))), Err(11));
+    assert_eq!(read(with_row(Row::new(1, 1, HoursRef::Always))), Err(11));
+    assert_eq!(read(with_row(Row::new(1, 0, HoursRef::Numbered(2)))), Err(11));
+    assert_eq!(read(with_row(Row::new(1, 0, HoursRef::Numbered(1)))), Ok(()));
     let with_permission = |row| Rota { permission_rows: vec![row], ..small() };
-    assert_eq!(read(with_permission(row(1, 0, HoursRef::Always))), Err(12));
-    assert_eq!(read(with_permission(row(0, 1, HoursRef::Always))), Err(12));
-    assert_eq!(read(with_permission(row(0, 0, HoursRef::Numbered(254)))), Err(12));
+    assert_eq!(read(with_permission(Row::new(1, 0, HoursRef::Always))), Err(12));
+    assert_eq!(read(with_permission(Row::new(0, 1, HoursRef::Always))), Err(12));
+    assert_eq!(read(with_permission(Row::new(0, 0, HoursRef::Numbered(254)))), Err(12));
     assert_eq!(read(Rota { roles: vec![HoursRef::Numbered(2)], ..small() }), Err(10));
     assert_eq!(read(Rota { users: 65, ..small() }), Err(4));
     assert_eq!(read(Rota { permissions: 65, ..small() }), Err(4));
     assert_eq!(read(Rota { users: 64, permissions: 64, ..small() }), Ok(()));
     assert_eq!(read(Rota { roles: vec![HoursRef::Always; 33], ..small() }), Err(4));
     assert_eq!(read(Rota { roles: vec![HoursRef::Always; 32], ..small() }), Ok(()));
-    let rows = |count| vec![row(0, 0, HoursRef::Always); count];
+    let rows = |count| vec![Row::new(0, 0, HoursRef::Always); count];
     assert_eq!(read(Rota { user_rows: rows(513), ..small() }), Err(4));
     assert_eq!(read(Rota { user_rows: rows(512), permission_rows: rows(512), ..small() }), Ok(()));
     assert_eq!(read(Rota { permission_rows: rows(513), ..small() }), Err(4));
-    let many = |count| Rota { hours: vec![hours(0, END, &[(0, 10)]); count], ..small() };
+    let many = |count| Rota { hours: vec![Hours::new(0, END, &[(0, 10)]); count], ..small() };
     assert_eq!(read(many(32)), Ok(()));
     assert_eq!(read(many(33)), Err(4));
     // 256 pairs in all pass, 257 do not.
     let pairs: Vec<(u16, u16)> = (0..255).map(|i| (2 * i, 1)).collect();
-    let mut full = Rota { cycle: 600, hours: vec![hours(0, 9, &pairs)], ..small() };
-    full.hours.push(hours(0, 9, &[(0, 1)]));
+    let mut full = Rota { cycle: 600, hours: vec![Hours::new(0, 9, &pairs)], ..small() };
+    full.hours.push(Hours::new(0, 9, &[(0, 1)]));
     assert_eq!(read(full.clone()), Ok(()));
-    full.hours.push(hours(0, 9, &[(0, 1)]));
+    full.hours.push(Hours::new(0, 9, &[(0, 1)]));
     assert_eq!(read(full), Err(7));
 }
 
