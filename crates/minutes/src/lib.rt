@@ -1,18 +1,10 @@
 // The minutes of the archive's calendar, and the window that hours records and table rows share.
 ghost use mathlib.Core.Path.{_≡_};
 ghost use Prim.Native.Nat.{_<_, _%_, _+_};
-ghost use lib.Dec.{leb};
-ghost use Rattle.minutes.specs.Minutes.{E, within};
+ghost use Rattle.minutes.specs.Minutes.{within};
 
 // One past the last minute (E of document 01).
 pub const END: u32 = 210379680;
-
-// Whether t is past the last minute.
-pub fn is_past(t: u32) -> bool
-    ensures { λ r. ⌜ r ≡ leb E t ⌝ }
-{
-    END <= t
-}
 
 // begin ≤ t < end
 pub fn during(begin: u32, end: u32, t: u32) -> bool

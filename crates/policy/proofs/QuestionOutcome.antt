@@ -43,3 +43,10 @@ module _ (j : ℕ) (π : Policy) (t : ℕ) where
   pub holders-given : (x : ℕ) → j ≡ 0 → t < E → x ≡ holdersAt π t → given x ≡ holdersQuestion j π t
   unfolding holdersQuestion _orElse_ outcome
   holders-given x z h e = ap given e ∙ rw (z, refuse-none 33 _ (lt-leb E t h)) refl
+
+-- the numbers of a question that are not refused
+pub numbers-below : (users permissions u p t n : ℕ) → n ≡ argumentsJudged users permissions u p t → n ≡ 0 → (u < users) × (p < permissions)
+unfolding argumentsJudged
+numbers-below users permissions u p t n e h =
+    let z = orElse-zero _ _ (orElse-zero _ _ (sym e ∙ h) .1) in
+    (leb-false _ _ (refuse-no 33 _ (z .0)), leb-false _ _ (refuse-no 34 _ (z .1)))

@@ -259,7 +259,7 @@ pub fn table_advance(s: &[u8], service: Service, m: u32) -> Advanced
             if bad != 0 {
                 return Advanced::Refused(bad, service);
             }
-            moved(table::gather(s, n, m), service, m)
+            moved(table::holders_in(s, n, m), service, m)
         }
     }
 }
@@ -274,7 +274,7 @@ pub fn table_open(s: &[u8], service: Service, u: u32) -> Changed
             if bad != 0 {
                 return Changed::Refused(bad, service);
             }
-            opened(n.users, table::gather(s, n, service.now), service, u)
+            opened(n.users, table::holders_in(s, n, service.now), service, u)
         }
     }
 }
@@ -298,7 +298,7 @@ pub fn table_ask(s: &[u8], service: Service, u: u32, p: u32) -> Asked
             if bad != 0 {
                 return Asked::Refused(bad, service);
             }
-            answered(table::first_role(s, n, u, p, service.now), service)
+            answered(table::answer_in(s, n, u, p, service.now), service)
         }
     }
 }

@@ -6,7 +6,6 @@ pub mod ReadLaws
 pub mod GrantLaws
 pub mod AnswerLaws
 pub mod HoldersLaws
-pub mod AskedLaws
 pub mod FollowsLaws
 pub mod FineLaws
 pub mod RowsLaws

@@ -7,7 +7,9 @@ use Rattle.ground.specs.Judgement.{_orElse_, inTurn}
 use Rattle.ground.specs.Outcome.{refused, given, outcome}
 use Rattle.ground.proofs.JudgementLaws.{orElse-ne, orElse-zero}
 use Rattle.ground.proofs.OutcomeLaws.{outcome-refused, outcome-given, refused-by, given-by}
-use Rattle.table.specs.TableBytes.{derivedOf}
+use Rattle.policy.specs.Policy.{argumentsJudged}
+use Rattle.table.specs.Table.{policyOf}
+use Rattle.table.specs.TableBytes.{derivedOf, tableOf}
 use Rattle.table.specs.TableRefusals.{headerJudged, entryJudged, rowJudged, tableJudged}
 use Rattle.table.specs.Answers.{countsOf, headerOutcome, readOutcome, Headed, Opened}
 use Rattle.table.specs.declared.Counts.{Counts}
@@ -60,3 +62,9 @@ module _ (s : List ℕ) where
   pub opened-header : (n : Counts) → Opened s n → Headed s n
   unfolding tableJudged
   opened-header n o = record { clear = orElse-zero (headerJudged s) _ (o .clear) .0; counts = o .counts }
+
+  -- a question's numbers judged by the counts that were read
+  pub arguments-as : (n : Counts) → Opened s n → (u p t : ℕ) {a : ℕ} → a ≡ argumentsJudged (n .users) (n .permissions) u p t
+      → a ≡ argumentsJudged (policyOf (tableOf s) .users) (policyOf (tableOf s) .permissions) u p t
+  unfolding tableOf
+  arguments-as n o u p t e = let f = counts-are s n (o .counts) in rw (f .users, f .permissions) at e

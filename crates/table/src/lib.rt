@@ -280,7 +280,7 @@ fn row_grants(s: &[u8], at: usize, u: u32, p: u32, t: u32, x: u32) -> bool
 }
 
 // The answer of an accepted table: rows go by source role, so the first row that grants has the lowest.
-pub fn first_role(s: &[u8], n: Counts, u: u32, p: u32, t: u32) -> Answer
+pub fn answer_in(s: &[u8], n: Counts, u: u32, p: u32, t: u32) -> Answer
     requires { ⌜ Opened (now s) n × (u < n .users) × (p < n .permissions) ⌝ }
     ensures { λ r. ⌜ answerGiven r ≡ given (answer (tableOf (now (s .entry))) u p t) ⌝ }
 {
@@ -310,7 +310,7 @@ pub fn question(s: &[u8], u: u32, p: u32, t: u32) -> Answer
             if bad != 0 {
                 return Answer::Refused(bad);
             }
-            first_role(s, n, u, p, t)
+            answer_in(s, n, u, p, t)
         }
     }
 }
@@ -329,7 +329,7 @@ fn row_users(s: &[u8], at: usize, t: u32, x: u32) -> u64
 }
 
 // The users of every row of an accepted table that covers minute t.
-pub fn gather(s: &[u8], n: Counts, t: u32) -> u64
+pub fn holders_in(s: &[u8], n: Counts, t: u32) -> u64
     requires { ⌜ Opened (now s) n ⌝ }
     ensures { λ r. ⌜ r ≡ holdersAt (policyOf (tableOf (now (s .entry)))) t ⌝ }
 {
@@ -352,10 +352,10 @@ pub fn holders(s: &[u8], t: u32) -> Holders
     match read(s) {
         TableAnswer::Refused(code) => Holders::Refused(code),
         TableAnswer::Accepted(n) => {
-            if minutes::is_past(t) {
+            if minutes::END <= t {
                 return Holders::Refused(33);
             }
-            Holders::Users(gather(s, n, t))
+            Holders::Users(holders_in(s, n, t))
         }
     }
 }

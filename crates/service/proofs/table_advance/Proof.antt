@@ -22,8 +22,8 @@ judge-advance-requires c κs = ready (reached _ _ (c .before .before .before .re
 returns : tie.Need-returns
 returns c = advance-refused (ready (reached _ _ (c .before .before .before .before .before .read .ensures) (c .before .before .before .n .given .1))) _ _ _ (c .before .judge-advance .ensures) (c .if1 .taken)
 
-gather-requires : tie.Need-gather-requires
-gather-requires c κs = reached _ _ (c .before .before .before .before .before .read .ensures) (c .before .before .before .n .given .1)
+holders-in-requires : tie.Need-holders-in-requires
+holders-in-requires c κs = reached _ _ (c .before .before .before .before .before .read .ensures) (c .before .before .before .n .given .1)
 
 moved-requires : tie.Need-moved-requires
 moved-requires c κs = search needs
@@ -33,7 +33,7 @@ returns-2 c = bytes-refused (policyOf (tableOf (c .before .before .before .befor
 
 returns-3 : tie.Need-returns-3
 returns-3 c = c .moved .ensures
-    ∙ advance-moved (ready (reached _ _ (c .before .before .before .before .before .before .before .read .ensures) (c .before .before .before .before .before .n .given .1))) _ _ _ _ (c .before .before .before .judge-advance .ensures) (c .before .before .if1 .left) (c .before .gather .ensures)
+    ∙ advance-moved (ready (reached _ _ (c .before .before .before .before .before .before .before .read .ensures) (c .before .before .before .before .before .n .given .1))) _ _ _ _ (c .before .before .before .judge-advance .ensures) (c .before .before .if1 .left) (c .before .holders-in .ensures)
 
 pub table-advance-spec : {M : Type 1} → statement M
 table-advance-spec =
@@ -44,7 +44,7 @@ table-advance-spec =
     enum-known-n
     judge-advance-requires
     returns
-    gather-requires
+    holders-in-requires
     moved-requires
     returns-2
     returns-3)

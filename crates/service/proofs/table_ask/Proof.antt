@@ -23,8 +23,8 @@ judge-ask-requires c κs = ready (reached _ _ (c .before .before .before .read .
 returns : tie.Need-returns
 returns c = ask-refused (ready (reached _ _ (c .before .before .before .before .before .read .ensures) (c .before .before .before .n .given .1))) _ _ _ _ (c .before .judge-ask .ensures) (c .if1 .taken)
 
-first-role-requires : tie.Need-first-role-requires
-first-role-requires c κs = let i = ask-inside _ _ _ _ _ _ (c .before .judge-ask .ensures) (c .if1 .left) in (reached _ _ (c .before .before .before .before .before .read .ensures) (c .before .before .before .n .given .1), i .0, i .1)
+answer-in-requires : tie.Need-answer-in-requires
+answer-in-requires c κs = let i = ask-inside _ _ _ _ _ _ (c .before .judge-ask .ensures) (c .if1 .left) in (reached _ _ (c .before .before .before .before .before .read .ensures) (c .before .before .before .n .given .1), i .0, i .1)
 
 answered-requires : tie.Need-answered-requires
 answered-requires c κs = search needs
@@ -34,7 +34,7 @@ returns-2 c = bytes-refused (policyOf (tableOf (c .before .before .before .befor
 
 returns-3 : tie.Need-returns-3
 returns-3 c = c .answered .ensures
-    ∙ ask-answered (ready (reached _ _ (c .before .before .before .before .before .before .before .read .ensures) (c .before .before .before .before .before .n .given .1))) _ _ _ _ _ (c .before .before .before .judge-ask .ensures) (c .before .before .if1 .left) (c .before .first-role .ensures)
+    ∙ ask-answered (ready (reached _ _ (c .before .before .before .before .before .before .before .read .ensures) (c .before .before .before .before .before .n .given .1))) _ _ _ _ _ (c .before .before .before .judge-ask .ensures) (c .before .before .if1 .left) (c .before .answer-in .ensures)
 
 pub table-ask-spec : {M : Type 1} → statement M
 table-ask-spec =
@@ -45,7 +45,7 @@ table-ask-spec =
     enum-known-n
     judge-ask-requires
     returns
-    first-role-requires
+    answer-in-requires
     answered-requires
     returns-2
     returns-3)

@@ -22,8 +22,8 @@ judge-state-requires c κs = ready (reached _ _ (c .before .before .before .read
 returns : tie.Need-returns
 returns c = open-refused (ready (reached _ _ (c .before .before .before .before .before .read .ensures) (c .before .before .before .n .given .1))) _ _ _ (c .before .judge-state .ensures) (c .if1 .taken)
 
-gather-requires : tie.Need-gather-requires
-gather-requires c κs = reached _ _ (c .before .before .before .before .before .read .ensures) (c .before .before .before .n .given .1)
+holders-in-requires : tie.Need-holders-in-requires
+holders-in-requires c κs = reached _ _ (c .before .before .before .before .before .read .ensures) (c .before .before .before .n .given .1)
 
 opened-requires : tie.Need-opened-requires
 opened-requires c κs = ready (reached _ _ (c .before .before .before .before .before .before .read .ensures) (c .before .before .before .before .n .given .1)) .few
@@ -33,7 +33,7 @@ returns-2 c = bytes-refused (policyOf (tableOf (c .before .before .before .befor
 
 returns-3 : tie.Need-returns-3
 returns-3 c = c .opened .ensures
-    ∙ open-opened (ready (reached _ _ (c .before .before .before .before .before .before .before .read .ensures) (c .before .before .before .before .before .n .given .1))) _ _ _ _ (c .before .before .before .judge-state .ensures) (c .before .before .if1 .left) (c .before .gather .ensures)
+    ∙ open-opened (ready (reached _ _ (c .before .before .before .before .before .before .before .read .ensures) (c .before .before .before .before .before .n .given .1))) _ _ _ _ (c .before .before .before .judge-state .ensures) (c .before .before .if1 .left) (c .before .holders-in .ensures)
 
 pub table-open-spec : {M : Type 1} → statement M
 table-open-spec =
@@ -44,7 +44,7 @@ table-open-spec =
     enum-known-n
     judge-state-requires
     returns
-    gather-requires
+    holders-in-requires
     opened-requires
     returns-2
     returns-3)

@@ -10,8 +10,8 @@ use Rattle.table.specs.Answers.{rowGrants}
 use Rattle.table.proofs.AnswerLaws.{row-inside, phase-is, first-grants, none-grants}
 use Rattle.table.proofs.ReadLaws.{opened-header}
 use Rattle.table.proofs.HeaderLaws.{laid}
-use Rattle.table.proofs.first_role.Statement.{statement}
-use Rattle.table.proofs.first_role.Tie as tie
+use Rattle.table.proofs.answer_in.Statement.{statement}
+use Rattle.table.proofs.answer_in.Tie as tie
 
 abbrev Inv-loop : tie.InvT-loop
 Inv-loop s u p t first rows x k₀ k = (k ≤ rows) × (anyBelow k (λ j. rowGrants s u p t (first + 16 * j)) ≡ false)
@@ -78,8 +78,8 @@ returns-2 c =
     let l = c .before in
     none-grants _ _ (l .before .before .before .before .before .pre .0) _ _ _ _ (le-antisymm (l .loop .inv .0) (c .loop-test .left)) (l .loop .inv .1)
 
-pub first-role-spec : {M : Type 1} → statement M
-first-role-spec =
+pub answer-in-spec : {M : Type 1} → statement M
+answer-in-spec =
     tie.close
     (tie.spec
     Inv-loop

@@ -7,8 +7,8 @@ use Rattle.table.proofs.HoldersLaws.{gathered, gather-none, gather-more
 use Rattle.table.proofs.AnswerLaws.{row-inside, phase-is}
 use Rattle.table.proofs.ReadLaws.{opened-header}
 use Rattle.table.proofs.HeaderLaws.{laid}
-use Rattle.table.proofs.gather.Statement.{statement}
-use Rattle.table.proofs.gather.Tie as tie
+use Rattle.table.proofs.holders_in.Statement.{statement}
+use Rattle.table.proofs.holders_in.Tie as tie
 
 abbrev Inv-loop : tie.InvT-loop
 Inv-loop s t first rows x set₀ i₀ set i = (i ≤ rows) × (set ≡ gathered s t first i)
@@ -62,8 +62,8 @@ returns c =
     let l = c .before in
     gather-all _ _ (l .before .before .before .before .before .pre) _ _ _ (le-antisymm (l .loop .inv .0) (c .loop-test .left)) (l .loop .inv .1)
 
-pub gather-spec : {M : Type 1} → statement M
-gather-spec =
+pub holders-in-spec : {M : Type 1} → statement M
+holders-in-spec =
     tie.close
     (tie.spec
     Inv-loop
