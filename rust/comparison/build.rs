@@ -5,11 +5,7 @@ use std::path::Path;
 
 fn main() {
     let manifest = std::env::var("CARGO_MANIFEST_DIR").expect("cargo sets it");
-    let mut names = vec!["probe"];
-    if std::env::var("CARGO_FEATURE_LENT").is_ok() {
-        names.push("service");
-    }
-    for name in names {
+    for name in ["interface", "probe"] {
         let file = format!("../../target/staticlib/lib{name}.a");
         let archive = Path::new(&manifest).join(file);
         println!("cargo::rerun-if-changed={}", archive.display());

@@ -1,17 +1,12 @@
-// Exports for the tests alone: leaves and by-value forms of the proved crates, as numbers, byte slices and plain structs.
+// Exports for the tests alone, beside those of the C interface: leaves and by-value forms of the proved crates, as numbers, byte slices and
+// plain structs.
 use bitset::contains;
-use calendar::DateAnswer;
-use calendar::MinuteAnswer;
 use hours::HoursAnswer;
-use policy::Answer;
 use policy::Holders;
-use rewriting::Rewritten;
-use rota::RotaAnswer;
 use service::Advanced;
 use service::Asked;
 use service::Changed;
 use service::Service;
-use table::TableAnswer;
 
 // A number that was found, or nothing.
 #[repr(C)]
@@ -190,131 +185,6 @@ pub extern "C" fn probe_hours_hold(s: &[u8], cycle: u32, t: u32) -> Held {
 }
 
 #[repr(C)]
-pub struct Date {
-    pub refusal: u32,
-    pub year: u32,
-    pub month: u32,
-    pub day: u32,
-    pub weekday: u32,
-    pub hour: u32,
-    pub minute: u32,
-}
-
-#[no_mangle]
-pub extern "C" fn probe_date(minute: u32) -> Date {
-    match calendar::date_of(minute) {
-        DateAnswer::On(d) => Date {
-            refusal: 0,
-            year: d.year,
-            month: d.month,
-            day: d.day,
-            weekday: d.weekday,
-            hour: d.hour,
-            minute: d.minute,
-        },
-        DateAnswer::Refused(n) => Date {
-            refusal: n as u32,
-            year: 0,
-            month: 0,
-            day: 0,
-            weekday: 0,
-            hour: 0,
-            minute: 0,
-        },
-    }
-}
-
-#[repr(C)]
-pub struct Minute {
-    pub refusal: u32,
-    pub minute: u32,
-}
-
-#[no_mangle]
-pub extern "C" fn probe_minute(year: u32, month: u32, day: u32, hour: u32, minute: u32) -> Minute {
-    match calendar::minute_of(year, month, day, hour, minute) {
-        MinuteAnswer::At(t) => Minute {
-            refusal: 0,
-            minute: t,
-        },
-        MinuteAnswer::Refused(n) => Minute {
-            refusal: n as u32,
-            minute: 0,
-        },
-    }
-}
-
-#[repr(C)]
-pub struct RotaRead {
-    pub refusal: u32,
-    pub cycle: u32,
-    pub hours: u32,
-    pub users: u32,
-    pub permissions: u32,
-    pub roles: u32,
-    pub user_rows: u32,
-    pub permission_rows: u32,
-}
-
-#[no_mangle]
-pub extern "C" fn probe_rota_read(s: &[u8]) -> RotaRead {
-    match rota::read(s) {
-        RotaAnswer::Accepted(n) => RotaRead {
-            refusal: 0,
-            cycle: n.cycle,
-            hours: n.hours,
-            users: n.users,
-            permissions: n.permissions,
-            roles: n.roles,
-            user_rows: n.user_rows,
-            permission_rows: n.permission_rows,
-        },
-        RotaAnswer::Refused(n) => RotaRead {
-            refusal: n as u32,
-            cycle: 0,
-            hours: 0,
-            users: 0,
-            permissions: 0,
-            roles: 0,
-            user_rows: 0,
-            permission_rows: 0,
-        },
-    }
-}
-
-#[repr(C)]
-pub struct Answered {
-    pub refusal: u32,
-    pub yes: u32,
-    pub role: u32,
-}
-
-fn answer_out(a: Answer) -> Answered {
-    match a {
-        Answer::Yes(r) => Answered {
-            refusal: 0,
-            yes: 1,
-            role: r as u32,
-        },
-        Answer::No => Answered {
-            refusal: 0,
-            yes: 0,
-            role: 0,
-        },
-        Answer::Refused(n) => Answered {
-            refusal: n as u32,
-            yes: 0,
-            role: 0,
-        },
-    }
-}
-
-#[no_mangle]
-pub extern "C" fn probe_rota_question(s: &[u8], u: u32, p: u32, t: u32) -> Answered {
-    answer_out(rota::question(s, u, p, t))
-}
-
-#[repr(C)]
 pub struct HolderSet {
     pub refusal: u32,
     pub users: u64,
@@ -338,79 +208,9 @@ pub extern "C" fn probe_rota_holders(s: &[u8], t: u32) -> HolderSet {
     holders_out(rota::holders(s, t))
 }
 
-#[repr(C)]
-pub struct TableRead {
-    pub refusal: u32,
-    pub cycle: u32,
-    pub users: u32,
-    pub permissions: u32,
-    pub roles: u32,
-    pub derived: u32,
-    pub rows: u32,
-}
-
-#[no_mangle]
-pub extern "C" fn probe_table_read(s: &[u8]) -> TableRead {
-    match table::read(s) {
-        TableAnswer::Accepted(n) => TableRead {
-            refusal: 0,
-            cycle: n.cycle,
-            users: n.users,
-            permissions: n.permissions,
-            roles: n.roles,
-            derived: n.derived,
-            rows: n.rows,
-        },
-        TableAnswer::Refused(n) => TableRead {
-            refusal: n as u32,
-            cycle: 0,
-            users: 0,
-            permissions: 0,
-            roles: 0,
-            derived: 0,
-            rows: 0,
-        },
-    }
-}
-
-#[no_mangle]
-pub extern "C" fn probe_table_question(s: &[u8], u: u32, p: u32, t: u32) -> Answered {
-    answer_out(table::question(s, u, p, t))
-}
-
 #[no_mangle]
 pub extern "C" fn probe_table_holders(s: &[u8], t: u32) -> HolderSet {
     holders_out(table::holders(s, t))
-}
-
-#[repr(C)]
-pub struct RewrittenTable {
-    pub refusal: u32,
-    pub derived: u32,
-    pub rows: u32,
-    pub length: u64,
-}
-
-#[no_mangle]
-pub extern "C" fn probe_rewrite(s: &[u8], out: &mut [u8]) -> RewrittenTable {
-    match rewriting::rewrite(s, out) {
-        Rewritten::Wrote {
-            derived,
-            rows,
-            length,
-        } => RewrittenTable {
-            refusal: 0,
-            derived,
-            rows,
-            length: length as u64,
-        },
-        Rewritten::Refused(n) => RewrittenTable {
-            refusal: n as u32,
-            derived: 0,
-            rows: 0,
-            length: 0,
-        },
-    }
 }
 
 // What a call of the service gives, and the state after it.

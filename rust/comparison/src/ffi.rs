@@ -71,8 +71,8 @@ unsafe extern "C" {
         total: u32,
     ) -> HoursJudged;
     fn probe_hours_hold(s: *const u8, len: usize, cycle: u32, t: u32) -> Held;
-    safe fn probe_date(minute: u32) -> Date;
-    safe fn probe_minute(year: u32, month: u32, day: u32, hour: u32, minute: u32) -> Minute;
+    safe fn softlode_date(minute: u32) -> Date;
+    safe fn softlode_minute(year: u32, month: u32, day: u32, hour: u32, minute: u32) -> Minute;
 }
 
 pub fn get(bytes: &[u8], at: usize, width: u32) -> Found {
@@ -124,9 +124,9 @@ pub fn hours_hold(bytes: &[u8], cycle: u32, t: u32) -> Held {
 }
 
 pub fn date(minute: u32) -> Date {
-    probe_date(minute)
+    softlode_date(minute)
 }
 
 pub fn minute(year: u32, month: u32, day: u32, hour: u32, minute: u32) -> Minute {
-    probe_minute(year, month, day, hour, minute)
+    softlode_minute(year, month, day, hour, minute)
 }

@@ -10,11 +10,11 @@ pub struct Rewritten {
 }
 
 unsafe extern "C" {
-    fn probe_rewrite(s: *const u8, len: usize, out: *mut u8, out_len: usize) -> Rewritten;
+    fn softlode_rewrite(s: *const u8, len: usize, out: *mut u8, out_len: usize) -> Rewritten;
 }
 
 pub fn rewrite(rota: &[u8], area: &mut [u8]) -> Rewritten {
-    unsafe { probe_rewrite(rota.as_ptr(), rota.len(), area.as_mut_ptr(), area.len()) }
+    unsafe { softlode_rewrite(rota.as_ptr(), rota.len(), area.as_mut_ptr(), area.len()) }
 }
 
 /// The table of an accepted rota, in an area that grows until it fits.

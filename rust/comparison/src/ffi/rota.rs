@@ -29,17 +29,17 @@ pub struct Holders {
 }
 
 unsafe extern "C" {
-    fn probe_rota_read(s: *const u8, len: usize) -> RotaRead;
-    fn probe_rota_question(s: *const u8, len: usize, u: u32, p: u32, t: u32) -> Answered;
+    fn softlode_rota_read(s: *const u8, len: usize) -> RotaRead;
+    fn softlode_rota_question(s: *const u8, len: usize, u: u32, p: u32, t: u32) -> Answered;
     fn probe_rota_holders(s: *const u8, len: usize, t: u32) -> Holders;
 }
 
 pub fn read(bytes: &[u8]) -> RotaRead {
-    unsafe { probe_rota_read(bytes.as_ptr(), bytes.len()) }
+    unsafe { softlode_rota_read(bytes.as_ptr(), bytes.len()) }
 }
 
 pub fn question(bytes: &[u8], user: u32, permission: u32, t: u32) -> Answered {
-    unsafe { probe_rota_question(bytes.as_ptr(), bytes.len(), user, permission, t) }
+    unsafe { softlode_rota_question(bytes.as_ptr(), bytes.len(), user, permission, t) }
 }
 
 pub fn holders(bytes: &[u8], t: u32) -> Holders {

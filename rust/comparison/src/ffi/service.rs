@@ -63,7 +63,7 @@ pub fn on_table(bytes: &[u8], state: State, call: Call) -> Stepped {
     given
 }
 
-/// The calls on a lent record: the archive of the crate service.
+/// The calls on a lent record: those of the C interface.
 #[cfg(feature = "lent")]
 mod lent {
     use super::{Call, State, Stepped};
@@ -83,14 +83,14 @@ mod lent {
     }
 
     unsafe extern "C" {
-        fn lent_rota_advance(service: *mut Service, s: *const u8, len: usize, m: u32) -> Told;
-        fn lent_rota_open(service: *mut Service, s: *const u8, len: usize, u: u32) -> Told;
-        fn lent_rota_close(service: *mut Service, s: *const u8, len: usize, u: u32) -> Told;
-        fn lent_rota_ask(service: *mut Service, s: *const u8, len: usize, u: u32, p: u32) -> Told;
-        fn lent_table_advance(service: *mut Service, s: *const u8, len: usize, m: u32) -> Told;
-        fn lent_table_open(service: *mut Service, s: *const u8, len: usize, u: u32) -> Told;
-        fn lent_table_close(service: *mut Service, s: *const u8, len: usize, u: u32) -> Told;
-        fn lent_table_ask(service: *mut Service, s: *const u8, len: usize, u: u32, p: u32) -> Told;
+        fn softlode_rota_advance(service: *mut Service, s: *const u8, len: usize, m: u32) -> Told;
+        fn softlode_rota_open(service: *mut Service, s: *const u8, len: usize, u: u32) -> Told;
+        fn softlode_rota_close(service: *mut Service, s: *const u8, len: usize, u: u32) -> Told;
+        fn softlode_rota_ask(service: *mut Service, s: *const u8, len: usize, u: u32, p: u32) -> Told;
+        fn softlode_table_advance(service: *mut Service, s: *const u8, len: usize, m: u32) -> Told;
+        fn softlode_table_open(service: *mut Service, s: *const u8, len: usize, u: u32) -> Told;
+        fn softlode_table_close(service: *mut Service, s: *const u8, len: usize, u: u32) -> Told;
+        fn softlode_table_ask(service: *mut Service, s: *const u8, len: usize, u: u32, p: u32) -> Told;
     }
 
     /// Lends the middle one of three records, and checks that its neighbours stay.
@@ -109,10 +109,10 @@ mod lent {
         let (s, len) = (bytes.as_ptr(), bytes.len());
         lend(state, |service| unsafe {
             match call {
-                Call::Advance(m) => lent_rota_advance(service, s, len, m),
-                Call::Open(user) => lent_rota_open(service, s, len, user),
-                Call::Close(user) => lent_rota_close(service, s, len, user),
-                Call::Ask(user, permission) => lent_rota_ask(service, s, len, user, permission),
+                Call::Advance(m) => softlode_rota_advance(service, s, len, m),
+                Call::Open(user) => softlode_rota_open(service, s, len, user),
+                Call::Close(user) => softlode_rota_close(service, s, len, user),
+                Call::Ask(user, permission) => softlode_rota_ask(service, s, len, user, permission),
             }
         })
     }
@@ -121,10 +121,10 @@ mod lent {
         let (s, len) = (bytes.as_ptr(), bytes.len());
         lend(state, |service| unsafe {
             match call {
-                Call::Advance(m) => lent_table_advance(service, s, len, m),
-                Call::Open(user) => lent_table_open(service, s, len, user),
-                Call::Close(user) => lent_table_close(service, s, len, user),
-                Call::Ask(user, permission) => lent_table_ask(service, s, len, user, permission),
+                Call::Advance(m) => softlode_table_advance(service, s, len, m),
+                Call::Open(user) => softlode_table_open(service, s, len, user),
+                Call::Close(user) => softlode_table_close(service, s, len, user),
+                Call::Ask(user, permission) => softlode_table_ask(service, s, len, user, permission),
             }
         })
     }

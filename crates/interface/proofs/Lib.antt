@@ -1,0 +1,3 @@
+pub mod LentOne
+pub mod LentTwo
+pub mod ToldLaws

@@ -1,0 +1,153 @@
+/*
+ * Softlode: proved access hours. The C interface of the proved library.
+ *
+ * Link target/staticlib/libinterface.a, which `rt staticlib interface` proves and writes (x86-64, System V calls). It needs no other library.
+ *
+ * What holds of every function here:
+ *
+ * - Any bytes and any numbers are safe. A call ends with its answer or with one refusal, whose number stands in `refusal` (0 where there is
+ *   none); values that an answer does not have are 0. A refusal writes no byte of an output area and leaves the service record as it came.
+ *   No call loops for ever, allocates, opens a file, reads a clock, or keeps anything between calls.
+ * - The caller owns all memory. Bytes are lent as a pointer and a length for the time of the call; no pointer is kept. The library reads
+ *   within the length, and writes only within an output area and to a service record.
+ * - A null pointer with length 0 is an empty input: a rota of no bytes is refusal 1, a table refusal 21. As an output area it is an area
+ *   of no bytes: refusal 20, unless the rota is refused. A null pointer with another length, and a null service record, are errors of the
+ *   caller that no library can see.
+ * - Lent memory must not overlap: the bytes, the output area and the service record are three different pieces of memory, and nobody else
+ *   writes them during the call. Bytes that are only read may be shared by any number of calls at the same time.
+ * - Calls on different records (and on different output areas) may run at the same time, on any threads. There is no global state.
+ * - Stack: softlode_rewrite takes less than 1 MiB (see docs/PERFORMANCE.md); every other call less than 4 KiB.
+ * - Every number that is passed has at least 32 bits, so that 256 is refused and never wraps to 0.
+ *
+ * Minutes count from 0, which is 00:00 on Monday 1 January 2001, to 210379679, in 31 December 2400. Volunteers, rights and roles are
+ * numbered from 0. Bit i of a set stands for number i.
+ *
+ * Refusals, by operation, in the order in which they are looked for:
+ *
+ *   reading a rota     1 shorter than its header; 2 another format; 3 a cycle that is not 1 to 40320 minutes; 4 a count over its limit;
+ *                      then each hours record: 5 cut off; 6 begin not before end, or end past 2400; 7 no pair, or more than 256 pairs in
+ *                      all; 8 a pair that is empty, past the cycle, or not later than the one before; then 9 the rest is too long or too
+ *                      short; 10 a role, 11 a volunteer row, 12 a right row names something that is not there
+ *   rewriting          those of a rota; 20 the output area is too small for the table
+ *   reading a table    21 shorter than its header; 22 another format; 23 cycle; 24 a count over its limit; 25 length; 26 a derived role;
+ *                      27 a row; 28 a row that does not follow the one before
+ *   a question         those of the bytes; 33 a minute past the last; 34 no such volunteer; 35 no such right
+ *   a service call     those of the bytes; 40 a record that does not fit; then
+ *                      advance 33, 41 the minute is before now; open 34, 42 already open, 43 holds no right now; close 34, 44 not open;
+ *                      ask 34, 35, 44
+ *   the calendar       33 a minute past the last; 50 a date or time that does not exist or is not in 2001 to 2400
+ */
+#ifndef SOFTLODE_H
+#define SOFTLODE_H
+
+#include <stddef.h>
+#include <stdint.h>
+
+#ifdef __cplusplus
+extern "C" {
+#endif
+
+/* The counts of an accepted rota's header. */
+typedef struct softlode_rota {
+    uint32_t refusal;
+    uint32_t cycle;       /* minutes, 1 to 40320 */
+    uint32_t hours;       /* hours records */
+    uint32_t volunteers;
+    uint32_t rights;
+    uint32_t roles;
+    uint32_t volunteer_rows;
+    uint32_t right_rows;
+} softlode_rota;
+
+/* The counts of an accepted table's header. */
+typedef struct softlode_table {
+    uint32_t refusal;
+    uint32_t cycle;
+    uint32_t volunteers;
+    uint32_t rights;
+    uint32_t roles;       /* roles of the rota */
+    uint32_t derived;     /* derived roles */
+    uint32_t rows;
+} softlode_table;
+
+/* A table that was written: its first `length` bytes of the output area. */
+typedef struct softlode_written {
+    uint32_t refusal;
+    uint32_t derived;
+    uint32_t rows;
+    uint64_t length;
+} softlode_written;
+
+/* What a question or a call of the service tells. */
+typedef struct softlode_told {
+    uint32_t refusal;
+    uint32_t yes;         /* a question, an ask: 1 yes, 0 no */
+    uint32_t value;       /* a yes: the lowest role that grants it; an advance: how many sessions it closed */
+} softlode_told;
+
+/*
+ * The service record. The host keeps one, starts it as { 0, 0 }, and lends it to each call: no call needs another. Its fields may be read,
+ * stored and restored at any time between calls; a record that does not fit the lent bytes is refusal 40.
+ */
+typedef struct softlode_service {
+    uint32_t now;         /* a minute */
+    uint64_t open;        /* the volunteers whose sessions are open */
+} softlode_service;
+
+/* A minute of the calendar. */
+typedef struct softlode_date_time {
+    uint32_t refusal;
+    uint32_t year;        /* 2001 to 2400 */
+    uint32_t month;       /* 1 to 12 */
+    uint32_t day;         /* 1 to 31 */
+    uint32_t weekday;     /* 0 Monday to 6 Sunday */
+    uint32_t hour;        /* 0 to 23 */
+    uint32_t minute;      /* 0 to 59 */
+} softlode_date_time;
+
+typedef struct softlode_minute_number {
+    uint32_t refusal;
+    uint32_t minute;
+} softlode_minute_number;
+
+/* Reads a rota: its counts, or 1 to 12. */
+softlode_rota softlode_rota_read(const uint8_t *rota, size_t length);
+
+/* Reads a table: its counts, or 21 to 28. Lend exactly the bytes of the table, not the whole area that it was written to. */
+softlode_table softlode_table_read(const uint8_t *table, size_t length);
+
+/* May the volunteer use the right at the minute? Yes with the lowest role, no, or the bytes' refusals, 33, 34, 35. */
+softlode_told softlode_rota_question(const uint8_t *rota, size_t length, uint32_t volunteer, uint32_t right, uint32_t minute);
+softlode_told softlode_table_question(const uint8_t *table, size_t length, uint32_t volunteer, uint32_t right, uint32_t minute);
+
+/*
+ * Rewrites a rota to its table, at the start of the output area. Bytes of the area past the table's length stay as they are. 1 to 12, or 20
+ * where 16 + 17 * derived + 16 * rows exceeds the size of the area; then the whole area stays as it is.
+ */
+softlode_written softlode_rewrite(const uint8_t *rota, size_t length, uint8_t *area, size_t size);
+
+/* Moves now to the minute, and closes the sessions of those who hold no right then: `value` counts them. 40; 33; 41. */
+softlode_told softlode_rota_advance(softlode_service *service, const uint8_t *rota, size_t length, uint32_t minute);
+softlode_told softlode_table_advance(softlode_service *service, const uint8_t *table, size_t length, uint32_t minute);
+
+/* Opens a session for a volunteer who holds a right now. 40; 34; 42; 43. */
+softlode_told softlode_rota_open(softlode_service *service, const uint8_t *rota, size_t length, uint32_t volunteer);
+softlode_told softlode_table_open(softlode_service *service, const uint8_t *table, size_t length, uint32_t volunteer);
+
+/* Closes a volunteer's session. 40; 34; 44. */
+softlode_told softlode_rota_close(softlode_service *service, const uint8_t *rota, size_t length, uint32_t volunteer);
+softlode_told softlode_table_close(softlode_service *service, const uint8_t *table, size_t length, uint32_t volunteer);
+
+/* May the volunteer, whose session is open, use the right now? 40; 34; 35; 44. The record stays as it is. */
+softlode_told softlode_rota_ask(softlode_service *service, const uint8_t *rota, size_t length, uint32_t volunteer, uint32_t right);
+softlode_told softlode_table_ask(softlode_service *service, const uint8_t *table, size_t length, uint32_t volunteer, uint32_t right);
+
+/* A minute as a date and time of day, or 33; and back from these without the weekday, or 50. */
+softlode_date_time softlode_date(uint32_t minute);
+softlode_minute_number softlode_minute(uint32_t year, uint32_t month, uint32_t day, uint32_t hour, uint32_t minute);
+
+#ifdef __cplusplus
+}
+#endif
+
+#endif
