@@ -1,19 +1,16 @@
 -- Demand 3: where the rewriting of a rota succeeds into an area, the claim holds of the rota's bytes and the bytes up to the length that was given.
 -- Assumes nothing.
-use Prim.Native.Nat.{ℕ, _<_}
-use mathlib.Core.Path.{_≡_, refl, sym, ap, ap₂, _∙_, subst}
-use mathlib.Core.Bool.{Bool}
+use Prim.Native.Nat.{ℕ}
+use mathlib.Core.Path.{_≡_, sym, ap, ap₂, _∙_, subst}
 use mathlib.Core.List.{List, _++_}
 use borrow.Author.Tests.{eq-eqb}
 use lib.Dec.{eqb}
 use lib.ListN.{length, take, drop}
 use lib.Seq.{take-at}
-use Rattle.ground.specs.Choice.{pick}
 use Rattle.ground.specs.Outcome.{given}
 use Rattle.ground.proofs.BoolLaws.{pick-true}
 use Rattle.ground.proofs.JudgementLaws.{orElse-zero}
 use Rattle.ground.proofs.OutcomeLaws.{given-by}
-use Rattle.policy.specs.Policy.{Policy}
 use Rattle.rota.specs.Rota.{Rota, answer}
 use Rattle.rota.specs.Rota as rota
 use Rattle.rota.specs.RotaBytes.{rotaOf}
@@ -26,9 +23,9 @@ use Rattle.table.specs.TableRefusals.{tableJudged}
 use Rattle.derivation.specs.Rewriting.{rewrite, sizeOf, rewriteJudged, Written, writtenOf, rewriteOutcome, areaAfter}
 use Rattle.derivation.proofs.RewritingTheorems.{means, same-answer, fewest}
 use Rattle.derivation.proofs.TableRewritten.{rewritten-accepted, rewritten-read, rewritten-length}
-use Rattle.service.specs.Machine.{Call, fresh, machineStep, serviceStep, run}
+use Rattle.service.specs.Machine.{Call, fresh, machineStep}
 use Rattle.service.specs.declared.Service.{Service}
-use Rattle.agreement.specs.Demand3.{rotaService, tableService, machine, Demand3}
+use Rattle.agreement.specs.Demand3.{rotaService, tableService, Demand3}
 use Rattle.agreement.proofs.MachineLaws.{run-same, service-is, same-step}
 
 -- the machine on the rewritten table is the machine on the rota

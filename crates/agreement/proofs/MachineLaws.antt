@@ -1,23 +1,22 @@
 -- The machine over two policies with the same counts that agree on every question below them: the same steps, and so the same runs.
 -- Assumes nothing.
-use Prim.Native.Nat.{ℕ, zero, suc, _<_, _≤_, _^_}
-use mathlib.Core.Path.{_≡_, refl, sym, ap, ap₂, _∙_}
-use mathlib.Core.Bool.{Bool, true, false, not, _&&_, _||_}
+use Prim.Native.Nat.{ℕ, zero, suc, _<_}
+use mathlib.Core.Path.{_≡_, refl, ap, _∙_}
+use mathlib.Core.Bool.{Bool, true, false, _&&_}
 use mathlib.Core.Option.{Option}
 use mathlib.Core.List.{List, [], _∷_}
-use lib.Dec.{leb, ltb}
-use borrow.Author.Tests.{leb-false, leb-true}
+use lib.Dec.{leb}
+use borrow.Author.Tests.{leb-false}
 use Rattle.ground.specs.Judgement.{refuse, _orElse_}
-use Rattle.ground.specs.Outcome.{Outcome, given}
-use Rattle.ground.specs.Search.{anyBelow}
+use Rattle.ground.specs.Outcome.{given}
 use Rattle.ground.proofs.BoolLaws.{or-no}
 use Rattle.ground.proofs.JudgementLaws.{orElse-zero, refuse-no}
 use Rattle.ground.proofs.SearchLaws.{any-same}
-use Rattle.bitset.specs.Sets.{has, setOf, difference, count}
+use Rattle.bitset.specs.Sets.{has, difference, count}
 use Rattle.bitset.proofs.SetLaws.{setOf-same}
 use Rattle.minutes.specs.Minutes.{E}
 use Rattle.policy.specs.Policy.{Policy, isYes, holdsAny}
-use Rattle.service.specs.Machine.{Call, advance, «open», close, ask, Gift, closed, answered, Step, Run, state, staying, stateJudged, callJudged, given-by, left-by, stepBy, machineStep, serviceStep, run}
+use Rattle.service.specs.Machine.{Call, advance, «open», close, ask, closed, answered, Step, state, staying, stateJudged, advanceJudged, openJudged, askJudged, callJudged, given-by, left-by, settled, stepBy, machineStep, serviceStep, run}
 use Rattle.service.specs.declared.Service.{Service}
 
 -- steps that agree give runs that agree
@@ -54,16 +53,15 @@ module _ (n m : ℕ) (f g : ℕ → ℕ → ℕ → Option ℕ) (same : (u p t :
   same-judged σ (advance t) h = refl
   same-judged σ («open» u) h = go (leb n u) refl
     where
-      go : (b : Bool) → leb n u ≡ b → (refuse 34 b orElse refuse 42 (has (σ .«open») u) orElse refuse 43 (not (holdsAny K (σ .now) u)))
-          ≡ (refuse 34 b orElse refuse 42 (has (σ .«open») u) orElse refuse 43 (not (holdsAny L (σ .now) u)))
-      go true e = unfold refuse _orElse_ in refl
-      go false e = ap (λ (d : Bool). refuse 34 false orElse refuse 42 (has (σ .«open») u) orElse refuse 43 (not d)) (same-holds (σ .now) u (leb-false n u e) h)
+      go : (b : Bool) → leb n u ≡ b → openJudged n (holdsAny K (σ .now) u) σ u ≡ openJudged n (holdsAny L (σ .now) u) σ u
+      go true e = unfold openJudged refuse _orElse_ in rw e refl
+      go false e = ap (λ (d : Bool). openJudged n d σ u) (same-holds (σ .now) u (leb-false n u e) h)
   same-judged σ (close u) h = refl
   same-judged σ (ask u p) h = refl
 
   -- what a call that is not refused gives and leaves
   same-given : (σ : Service) (c : Call) → σ .now < E → callJudged K σ c ≡ 0 → given-by K σ c ≡ given-by L σ c
-  unfolding callJudged given-by
+  unfolding callJudged advanceJudged askJudged given-by
   same-given σ (advance t) h z =
       let ht : t < E = leb-false E t (refuse-no 32 _ (orElse-zero _ _ z .0)) in
       ap (λ (o : ℕ). closed (count (difference (σ .«open») o))) (same-staying (σ .«open») t ht)
@@ -75,7 +73,7 @@ module _ (n m : ℕ) (f g : ℕ → ℕ → ℕ → Option ℕ) (same : (u p t :
       ap answered (same u p (σ .now) (leb-false n u (refuse-no 33 _ (a .0))) (leb-false m p (refuse-no 34 _ (b .0))) h)
 
   same-left : (σ : Service) (c : Call) → callJudged K σ c ≡ 0 → left-by K σ c ≡ left-by L σ c
-  unfolding callJudged left-by
+  unfolding callJudged advanceJudged left-by
   same-left σ (advance t) z =
       let ht : t < E = leb-false E t (refuse-no 32 _ (orElse-zero _ _ z .0)) in
       ap (λ (o : ℕ). state t o) (same-staying (σ .«open») t ht)
@@ -85,14 +83,14 @@ module _ (n m : ℕ) (f g : ℕ → ℕ → ℕ → Option ℕ) (same : (u p t :
 
   pub same-step : (σ : Service) (c : Call) → machineStep K σ c ≡ machineStep L σ c
   unfolding machineStep stateJudged
-  same-step σ c = by-state (refuse 40 (leb E (σ .now) || leb (2 ^ n) (σ .«open»))) refl
+  same-step σ c = by-state (stateJudged n σ) refl
     where
       by-call : σ .now < E → (j : ℕ) → callJudged K σ c ≡ j → stepBy j K σ c ≡ stepBy j L σ c
-      by-call h zero e = unfold stepBy in λ i. record { outcome = given (same-given σ c h e i); after = same-left σ c e i }
-      by-call h (suc j) e = unfold stepBy in refl
+      by-call h zero e = unfold stepBy settled in λ i. record { outcome = given (same-given σ c h e i); after = same-left σ c e i }
+      by-call h (suc j) e = unfold stepBy settled in refl
 
-      by-state : (j : ℕ) → refuse 40 (leb E (σ .now) || leb (2 ^ n) (σ .«open»)) ≡ j → stepBy (j orElse callJudged K σ c) K σ c ≡ stepBy (j orElse callJudged L σ c) L σ c
+      by-state : (j : ℕ) → stateJudged n σ ≡ j → stepBy (j orElse callJudged K σ c) K σ c ≡ stepBy (j orElse callJudged L σ c) L σ c
       by-state zero e =
           let h : σ .now < E = leb-false E (σ .now) (or-no _ _ (refuse-no 39 _ e) .0) in
           unfold _orElse_ in (by-call h (callJudged K σ c) refl ∙ ap (λ (j : ℕ). stepBy j L σ c) (same-judged σ c h))
-      by-state (suc j) e = unfold _orElse_ stepBy in refl
+      by-state (suc j) e = unfold _orElse_ stepBy settled in refl

@@ -1,14 +1,14 @@
 -- What document 01 marks for proof under "Worked minutes", as one statement; and the table of its small rota S.
 -- Assumes nothing.
 use Prim.Native.Nat.{ℕ, _<_}
-use mathlib.Core.Path.{_≡_, refl, sym, ap, ap₂, _∙_}
-use mathlib.Core.Option.{none, some}
+use mathlib.Core.Path.{_≡_, refl, ap, _∙_}
+use mathlib.Core.Option.{none}
 use mathlib.Core.List.{List, [], _∷_, _++_, map, List·Memᴰ, List·Memᴰ·head, List·Memᴰ·tail}
 use native.Mathlib.Omega.{arith}
 use lib.ListN.{length}
 use Rattle.ground.specs.Judgement.{refuse, _orElse_, inTurn}
 use Rattle.ground.specs.Outcome.{refused, given, outcome}
-use Rattle.ground.specs.Search.{any, anyBelow, firstOf, lowestBelow, highestBelow, countBelow}
+use Rattle.ground.specs.Search.{any, anyBelow, firstOf, lowestBelow, countBelow}
 use Rattle.ground.specs.Sequence.{listOf, All}
 use Rattle.endian.specs.Numbers.{u16At, u32At}
 use Rattle.bitset.specs.Sets.{has, setOf, insert, remove, difference, count}
@@ -29,18 +29,18 @@ use Rattle.rota.proofs.Worked.{small, small-accepted, WorkedMinutes, worked-min
 use Rattle.table.specs.Table.{Entry, Row}
 use Rattle.derivation.specs.Cuts.{insertCut, sortInto, gapsFrom, gaps}
 use Rattle.derivation.specs.Distinct.{addNew, addAll, placeOf}
-use Rattle.derivation.specs.Rewriting.{hoursCuts, pairCuts, pairsCuts, eraCuts, cellCuts, fieldsOf, fields, keptAs, Kept, kept, rewrite, sizeOf, rewriteJudged, Written, writtenOf, rewriteOutcome}
+use Rattle.derivation.specs.Rewriting.{hoursCuts, pairCuts, pairsCuts, eraCuts, cellCuts, fieldsOf, fields, keptAs, Kept, kept, rewrite, sizeOf, rewriteJudged}
 use Rattle.derivation.specs.Masks.{firstIn, maskOf, slotOf, assignedIn, usersIn, permissionsIn, keptIn}
 use Rattle.derivation.proofs.RewritingTheorems.{kept-mask, worked-field}
 use Rattle.derivation.proofs.WorkedField.{example, field}
 use Rattle.derivation.proofs.RoleByRole.{entriesFrom, rowsFrom, entries-by-role, rows-by-role}
 use Rattle.derivation.proofs.RoleMarks.{derivedFrom, marksFrom, rowsMarked, Agree, agree-masks, role-entries, role-rows}
 use Rattle.service.specs.declared.Service.{Service}
-use Rattle.service.specs.Machine.{Call, advance, «open», closed, done, Step, state, fresh, staying, stateJudged, callJudged, given-by, left-by, stepBy, machineStep}
+use Rattle.service.specs.Machine.{Call, advance, «open», closed, done, Step, state, fresh, staying, stateJudged, advanceJudged, openJudged, callJudged, given-by, left-by, settled, stepBy, machineStep}
 
 -- opens every definition that an example computes through
 unfoldable opened : Unit {0}
-unfolding E inPhase any anyBelow firstOf lowestBelow countBelow listOf u16At u32At holds refHolds refOf dangling recordAt pairsBefore hoursFrom earliest pairJudged hoursJudged recordJudged refuse _orElse_ inTurn enabled assigned hasUser hasPermission through answer rotaOf countsOver headerJudged roleJudged rowBad rowJudged rotaJudged holdsAny has setOf insert remove difference count insertCut sortInto gapsFrom gaps addNew addAll placeOf hoursCuts pairCuts pairsCuts eraCuts cellCuts fieldsOf fields firstIn maskOf slotOf assignedIn usersIn permissionsIn keptIn derivedFrom marksFrom rowsMarked staying stateJudged callJudged given-by left-by stepBy machineStep
+unfolding E inPhase any anyBelow firstOf lowestBelow countBelow listOf u16At u32At holds refHolds refOf dangling recordAt pairsBefore hoursFrom earliest pairJudged hoursJudged recordJudged refuse _orElse_ inTurn enabled assigned hasUser hasPermission through answer rotaOf countsOver headerJudged roleJudged rowBad rowJudged rotaJudged holdsAny has setOf insert remove difference count insertCut sortInto gapsFrom gaps addNew addAll placeOf hoursCuts pairCuts pairsCuts eraCuts cellCuts fieldsOf fields firstIn maskOf slotOf assignedIn usersIn permissionsIn keptIn derivedFrom marksFrom rowsMarked staying stateJudged advanceJudged openJudged callJudged given-by left-by settled stepBy machineStep
 opened = tt
 
 abbrev ρ : Rota

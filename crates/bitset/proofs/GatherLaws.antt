@@ -2,13 +2,13 @@
 --     gather-none, gather-in, gather-out    before the first turn; a turn that puts a in; a turn that puts nothing in
 --     lowest-of, none-of                    the lowest member of a set given by a test, and a set with no member
 -- Assumes nothing.
-use mathlib.Core.Path.{_≡_, refl, sym, ap, ap₂, _∙_}
+use mathlib.Core.Path.{_≡_, sym, ap, ap₂, _∙_}
 use mathlib.Core.Bool.{Bool, true, false, _&&_, _||_}
-use mathlib.Core.Option.{Option, none, some}
-use Prim.Native.Nat.{ℕ, zero, suc, _+_, _≤_, _<_, _^_}
+use mathlib.Core.Option.{none, some}
+use Prim.Native.Nat.{ℕ, _+_, _≤_, _<_, _^_}
 use native.Mathlib.Nat.{lt-of-lt-of-le}
 use native.Mathlib.Omega.{arith}
-use lib.Dec.{T, eqb, ltb, eqb→eq, eqb-refl}
+use lib.Dec.{T, eqb, ltb, eqb→eq}
 use lib.Pow.{pow-pos, pow-mono}
 use borrow.Author.Tests.{eq-eqb, ltb-true}
 use Rattle.ground.specs.Search.{anyBelow, lowestBelow}

@@ -17,8 +17,6 @@ use Rattle.minutes.specs.Minutes.{E}
 use Rattle.calendar.specs.Calendar.{leap, yearLength, monthLength, yearStart, monthStart, dayNumber, minuteNumber, exists, minuteOf, dateAt}
 use Rattle.calendar.proofs.ExistsLaws.{exists-in, exists-out, date-year, date-month, number-below}
 use Rattle.calendar.proofs.DateLaws.{minute-year, minute-month, date-is, date-exists, date-number, clock, day-back}
-pub use Rattle.calendar.proofs.PeriodLaws.{year-next}
-pub use Rattle.calendar.proofs.ExistsLaws.{end-is}
 
 -- There and back.
 module _ (t : ℕ) (h : t < E) where

@@ -1,7 +1,7 @@
 -- The calendar (document 01, "Calendar and listing"; refusals 33 and 50). Minute 0 is 00:00 on Monday 1 January 2001.
 use Prim.Native.Nat.{ℕ, zero, suc, _+_, _-_, _*_, _/_, _%_}
 use mathlib.Core.Bool.{Bool, not, _&&_, _||_}
-use mathlib.Core.List.{List, [], _∷_}
+use mathlib.Core.List.{[], _∷_}
 use lib.Dec.{leb, ltb, eqb}
 use lib.ListN.{getD}
 use Rattle.ground.specs.Choice.{pick}

@@ -6,14 +6,14 @@
 -- Assumes nothing.
 use Rattle.ground.proofs.ListLaws.{some-in, some-out}
 use Rattle.ground.proofs.BoolLaws.{clash}
-use Prim.Native.Nat.{ℕ, suc, _<_, zero-le, suc-le-suc}
-use mathlib.Core.Path.{_≡_, refl, sym, ap, _∙_}
+use Prim.Native.Nat.{_<_}
+use mathlib.Core.Path.{_≡_, refl, sym}
 use mathlib.Core.Logic.{_⊎_, inl, inr, ⊎-elim}
-use mathlib.Core.Bool.{Bool, true, false}
+use mathlib.Core.Bool.{Bool, true}
 use mathlib.Core.List.{List, [], _∷_, _++_, map, Memᴰ·of-map, List·Memᴰ, List·Memᴰ·head, List·Memᴰ·tail, List·Memᴰ·cases-cons, List·Memᴰ·not-nil, Memᴰ·append-left, Memᴰ·append-right, List·Memᴰ·append-cases, List·Memᴰ·eq-of-singleton, Memᴰ·cast}
 use lib.ListN.{length, getD}
-use Rattle.ground.specs.Choice.{pick}
 use Rattle.ground.specs.Search.{any}
+use Rattle.derivation.proofs.TableDistinct.{add-cases, place-is, place-below as there-below}
 use Rattle.derivation.specs.Distinct.{addNew, addAll, placeOf}
 
 pub record Decides {A : Type 0} (same : A → A → Bool) : Type 0 where
@@ -41,27 +41,26 @@ distinct-map f (x ∷ l) h d = (
 )
 
 module _ {A : Type 0} {same : A → A → Bool} (decides : Decides same) where
-  -- the two ways of an addition
-  add-cases {ℓ} : (P : List A → Type ℓ) (l : List A) (x : A) → (List·Memᴰ x l → P l) → ((List·Memᴰ x l → ⊥) → P (l ++ (x ∷ [])))
-      → P (addNew same l x)
-  unfolding addNew
-  add-cases P l x f g = go (any (same x) l) refl
-    where
-      there : (y : A) × List·Memᴰ y l × (same x y ≡ true) → List·Memᴰ x l
-      there r = Memᴰ·cast (decides .sound x (r .0) (r .2)) (r .1)
+  -- membership is what the test says
+  mem-there : (x : A) (l : List A) → List·Memᴰ x l → any (same x) l ≡ true
+  mem-there x l m = some-in (same x) m (decides .self x)
 
-      go : (b : Bool) → any (same x) l ≡ b → P (pick b l (l ++ (x ∷ [])))
-      go true e = f (there (some-out (same x) l e))
-      go false e = g (λ m. clash _ (some-in (same x) m (decides .self x)) e)
+  there-mem : (x : A) (l : List A) → any (same x) l ≡ true → List·Memᴰ x l
+  there-mem x l e = let r = some-out (same x) l e in Memᴰ·cast (decides .sound x (r .0) (r .2)) (r .1)
+
+  -- the two ways of an addition
+  add-ways {ℓ} : (P : List A → Type ℓ) (l : List A) (x : A) → (List·Memᴰ x l → P l) → ((List·Memᴰ x l → ⊥) → P (l ++ (x ∷ [])))
+      → P (addNew same l x)
+  add-ways P l x f g = add-cases same P l x (λ h. f (there-mem x l h)) (λ h. g (λ m. clash _ (mem-there x l m) h))
 
   add-in : (l : List A) (x y : A) → List·Memᴰ y l ⊎ (y ≡ x) → List·Memᴰ y (addNew same l x)
   add-in l x y m =
-      add-cases (List·Memᴰ y) l x (λ k. ⊎-elim (λ n. n) (λ e. Memᴰ·cast e k) m)
+      add-ways (List·Memᴰ y) l x (λ k. ⊎-elim (λ n. n) (λ e. Memᴰ·cast e k) m)
       (λ k. ⊎-elim (λ n. Memᴰ·append-left (x ∷ []) n) (λ e. Memᴰ·append-right l (List·Memᴰ·head e)) m)
 
   add-out : (l : List A) (x y : A) → List·Memᴰ y (addNew same l x) → List·Memᴰ y l ⊎ (y ≡ x)
   add-out l x y =
-      add-cases (λ q. List·Memᴰ y q → List·Memᴰ y l ⊎ (y ≡ x)) l x (λ _ m. inl m)
+      add-ways (λ q. List·Memᴰ y q → List·Memᴰ y l ⊎ (y ≡ x)) l x (λ _ m. inl m)
       (λ _ m. ⊎-elim inl (λ k. inr (List·Memᴰ·eq-of-singleton k)) (List·Memᴰ·append-cases l m))
 
   pub added-in : (l xs : List A) (y : A) → List·Memᴰ y l ⊎ List·Memᴰ y xs → List·Memᴰ y (addAll same l xs)
@@ -82,23 +81,10 @@ module _ {A : Type 0} {same : A → A → Bool} (decides : Decides same) where
   pub added-distinct : (l xs : List A) → Distinct l → Distinct (addAll same l xs)
   unfolding addAll
   added-distinct l [] d = d
-  added-distinct l (x ∷ xs) d = added-distinct (addNew same l x) xs (add-cases Distinct l x (λ _. d) (λ n. distinct-append l (x ∷ []) d (List·Memᴰ·not-nil, tt) (λ y m k. n (Memᴰ·cast (sym (List·Memᴰ·eq-of-singleton k)) m))))
-
-  -- the two ways of a look at the first element
-  place-cases {ℓ} : (P : ℕ → Type ℓ) (x y : A) (l : List A) → List·Memᴰ x (y ∷ l) → (x ≡ y → P 0) → (List·Memᴰ x l → P (suc (placeOf same x l)))
-      → P (placeOf same x (y ∷ l))
-  unfolding placeOf
-  place-cases P x y l m f g = go (same x y) refl (List·Memᴰ·cases-cons m)
-    where
-      go : (b : Bool) → same x y ≡ b → (x ≡ y) ⊎ List·Memᴰ x l → P (pick b 0 (suc (placeOf same x l)))
-      go true e q = f (decides .sound x y e)
-      go false e (inl p) = clash _ (ap (same x) (sym p) ∙ decides .self x) e
-      go false e (inr k) = g k
+  added-distinct l (x ∷ xs) d = added-distinct (addNew same l x) xs (add-ways Distinct l x (λ _. d) (λ n. distinct-append l (x ∷ []) d (List·Memᴰ·not-nil, tt) (λ y m k. n (Memᴰ·cast (sym (List·Memᴰ·eq-of-singleton k)) m))))
 
   pub place-below : (x : A) (l : List A) → List·Memᴰ x l → placeOf same x l < length l
-  place-below x [] m = absurd (List·Memᴰ·not-nil m)
-  place-below x (y ∷ l) m = place-cases (λ i. i < suc (length l)) x y l m (λ e. suc-le-suc zero-le) (λ k. suc-le-suc (place-below x l k))
+  place-below x l m = there-below same x l (mem-there x l m)
 
   pub place-at : (x : A) (l : List A) (d : A) → List·Memᴰ x l → getD l (placeOf same x l) d ≡ x
-  place-at x [] d m = absurd (List·Memᴰ·not-nil m)
-  place-at x (y ∷ l) d m = place-cases (λ i. getD (y ∷ l) i d ≡ x) x y l m sym (λ k. place-at x l d k)
+  place-at x l d m = place-is same (decides .sound) x l d (mem-there x l m)

@@ -21,12 +21,12 @@ use Rattle.hours.specs.declared.HoursRef.{HoursRef}
 use Rattle.rota.specs.Rota.{Rota, refOn, enabled, hasUser, hasPermission}
 use Rattle.rota.specs.Rota as rota
 use Rattle.rota.specs.RotaWell.{RotaWell}
-use Rattle.table.specs.Table.{Entry, entryAt}
+use Rattle.table.specs.Table.{Entry}
 use Rattle.table.specs.Table as table
 use Rattle.derivation.specs.Rewriting.{fields, usersAt, permissionsAt, derivedAt, active, keptAs, Kept, kept, rewrite}
 use Rattle.derivation.specs.Masks.{minuteOf, maskOf, keptIn}
 use Rattle.derivation.specs.Untimed.{Untimed, countOf, Rival}
-use Rattle.derivation.specs.Meaning.{Acting, EnabledFor, MeansAt}
+use Rattle.derivation.specs.Meaning.{Acting, MeansAt}
 use Rattle.derivation.proofs.ConstancyLaws.{alike-enabled, alike-user, alike-permission, alike-users, alike-permissions, alike-active}
 use Rattle.derivation.proofs.FieldLaws.{field-alike, field-find, field-unique, field-count}
 use Rattle.derivation.proofs.KeptLaws.{kept-closed}

@@ -1,55 +1,22 @@
 -- Laws of values that are sorted and without repeats, and of the gaps between neighbours.
---     sort-all, sort-rising, sort-length     what holds of all values; each greater than the one before; how many
+--     sort-all, sort-length                  what holds of all values; how many
 --     gaps-fit, gaps-apart, gaps-length      each gap from a value to a greater one; each before the next; how many
 -- Assumes nothing.
 use Rattle.ground.proofs.ListLaws.{Pairwise}
 use Prim.Native.Nat.{ℕ, suc, _+_, _-_, _≤_, _<_}
 use mathlib.Core.Path.{_≡_, refl, ap}
-use mathlib.Core.Bool.{Bool, true, false}
 use mathlib.Core.List.{List, [], _∷_}
 use native.Mathlib.Omega.{arith}
-use borrow.Author.Tests.{ltb-true, ltb-false, eqb-true, eqb-false}
-use lib.Dec.{ltb, eqb}
 use lib.ListN.{length}
-use Rattle.ground.specs.Choice.{pick}
 use Rattle.ground.specs.Sequence.{All}
+use Rattle.derivation.proofs.CutLaws.{Above, Sorted, by-order}
 use Rattle.derivation.specs.Cuts.{Gap, insertCut, sortInto, gapsFrom, gaps}
-
--- each value is greater than the one before, the first than a
-abbrev pub Above : ℕ → List ℕ → Type 0
-Above a [] = Unit {0}
-Above a (x ∷ l) = (a < x) × Above x l
-
-abbrev pub Rising : List ℕ → Type 0
-Rising [] = Unit {0}
-Rising (x ∷ l) = Above x l
-
--- less, equal, greater
-by-order : (P : List ℕ → Type 0) (x y : ℕ) (a b c : List ℕ) → (x < y → P a) → (x ≡ y → P b) → (y < x → P c)
-    → P (pick (ltb x y) a (pick (eqb x y) b c))
-by-order P x y a b c less equal greater = order (ltb x y) (eqb x y) refl refl
-  where
-    order : (s t : Bool) → ltb x y ≡ s → eqb x y ≡ t → P (pick s a (pick t b c))
-    order true t p q = less (ltb-true x y p)
-    order false true p q = equal (eqb-true x y q)
-    order false false p q = greater (omega (arith, ltb-false x y p, eqb-false x y q))
 
 insert-all : (P : ℕ → Type 0) (x : ℕ) (l : List ℕ) → P x → All P l → All P (insertCut x l)
 unfolding insertCut
 insert-all P x [] p q = (p, tt)
 insert-all P x (y ∷ l) p q =
     by-order (All P) x y _ _ _ (λ h. (p, q)) (λ h. q) (λ h. (q .0, insert-all P x l p (q .1)))
-
-insert-above : (a x : ℕ) (l : List ℕ) → a < x → Above a l → Above a (insertCut x l)
-unfolding insertCut
-insert-above a x [] h s = (h, tt)
-insert-above a x (y ∷ l) h s =
-    by-order (Above a) x y _ _ _ (λ k. (h, (k, s .1))) (λ k. s) (λ k. (s .0, insert-above y x l k (s .1)))
-
-insert-rising : (x : ℕ) (l : List ℕ) → Rising l → Rising (insertCut x l)
-unfolding insertCut
-insert-rising x [] s = tt
-insert-rising x (y ∷ l) s = by-order Rising x y _ _ _ (λ k. (k, s)) (λ k. s) (λ k. insert-above y x l k s)
 
 insert-length : (x : ℕ) (l : List ℕ) → length (insertCut x l) ≤ suc (length l)
 unfolding insertCut
@@ -61,11 +28,6 @@ pub sort-all : (P : ℕ → Type 0) (sorted l : List ℕ) → All P sorted → A
 unfolding sortInto
 sort-all P sorted [] p q = p
 sort-all P sorted (x ∷ l) p q = sort-all P (insertCut x sorted) l (insert-all P x sorted (q .0) p) (q .1)
-
-pub sort-rising : (sorted l : List ℕ) → Rising sorted → Rising (sortInto sorted l)
-unfolding sortInto
-sort-rising sorted [] s = s
-sort-rising sorted (x ∷ l) s = sort-rising (insertCut x sorted) l (insert-rising x sorted s)
 
 pub sort-length : (sorted l : List ℕ) → length (sortInto sorted l) ≤ length sorted + length l
 unfolding sortInto
@@ -100,12 +62,12 @@ unfolding gapsFrom
 gapsFrom-length a [] = refl
 gapsFrom-length a (x ∷ l) = ap suc (gapsFrom-length x l)
 
-pub gaps-fit : (top : ℕ) (l : List ℕ) → Rising l → All (λ (x : ℕ). x ≤ top) l → All (Fits top) (gaps l)
+pub gaps-fit : (top : ℕ) (l : List ℕ) → Sorted l → All (λ (x : ℕ). x ≤ top) l → All (Fits top) (gaps l)
 unfolding gaps
 gaps-fit top [] s p = tt
 gaps-fit top (x ∷ l) s p = gapsFrom-fit top x l s (p .1)
 
-pub gaps-apart : (l : List ℕ) → Rising l → Pairwise Apart (gaps l)
+pub gaps-apart : (l : List ℕ) → Sorted l → Pairwise Apart (gaps l)
 unfolding gaps
 gaps-apart [] s = tt
 gaps-apart (x ∷ l) s = gapsFrom-apart x l s

@@ -85,7 +85,7 @@ module _ {A : Type 0} (same : A → A → Bool) where
       go false h ih = omega (arith, ih h)
 
   -- an element is there already, or comes to the end
-  add-cases : (P : List A → Type 0) (l : List A) (x : A) → (there x l ≡ true → P l) → (there x l ≡ false → P (l ++ (x ∷ []))) → P (addNew same l x)
+  pub add-cases {ℓ} : (P : List A → Type ℓ) (l : List A) (x : A) → (there x l ≡ true → P l) → (there x l ≡ false → P (l ++ (x ∷ []))) → P (addNew same l x)
   unfolding addNew
   add-cases P l x f g = go (there x l) refl
     where

@@ -18,7 +18,8 @@ use Rattle.rota.specs.Rota.{Rota}
 use Rattle.rota.specs.RotaWell.{RotaWell}
 use Rattle.derivation.specs.Cuts.{Gap, gaps}
 use Rattle.derivation.specs.Rewriting.{hoursCuts, pairCuts, pairsCuts, eraCuts, cellCuts, fieldOf, fieldsOf, fields}
-use Rattle.derivation.proofs.TableCuts.{Rising, sort-all, sort-rising, sort-length, Fits, Apart, gaps-fit, gaps-apart, gaps-length}
+use Rattle.derivation.proofs.CutLaws.{Sorted, sort-sorted}
+use Rattle.derivation.proofs.TableCuts.{sort-all, sort-length, Fits, Apart, gaps-fit, gaps-apart, gaps-length}
 
 -- the values that are sorted: none past its limit, and how many
 hours-within : (c : ℕ) (hs : List Hours) → All (HoursWell c) hs → All (λ (x : ℕ). x ≤ E) (hoursCuts hs)
@@ -111,13 +112,13 @@ module _ (ρ : Rota) (w : RotaWell ρ) where
         mul-le-mul-left 65 cells-few,
       )
 
-  eras-rise : Rising (eraCuts ρ)
+  eras-rise : Sorted (eraCuts ρ)
   unfolding eraCuts
-  eras-rise = sort-rising [] _ tt
+  eras-rise = sort-sorted [] _ tt
 
-  cells-rise : Rising (cellCuts ρ)
+  cells-rise : Sorted (cellCuts ρ)
   unfolding cellCuts
-  cells-rise = sort-rising [] _ tt
+  cells-rise = sort-sorted [] _ tt
 
   eras-fit : All (Fits E) (gaps (eraCuts ρ))
   unfolding eraCuts

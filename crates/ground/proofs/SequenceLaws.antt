@@ -3,7 +3,7 @@
 --     listOf-all, listOf-next, listOf-is                   from a condition on every element, or on neighbours, to the index; the list itself
 --     joined-append, joined-listOf                         joined lists, one part more
 -- Assumes nothing.
-use Prim.Native.Nat.{ℕ, zero, suc, _+_, _<_}
+use Prim.Native.Nat.{ℕ, zero, suc, _<_}
 use mathlib.Core.Path.{_≡_, refl, sym, _∙_, ap, subst, subst₂}
 use mathlib.Core.List.{List, [], _∷_, _++_, append-assoc, append-nil}
 use native.Mathlib.Omega.{arith}

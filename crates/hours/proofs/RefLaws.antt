@@ -1,9 +1,8 @@
 -- References.
 -- Assumes nothing.
-use Prim.Native.Nat.{ℕ, _≤_, _<_}
+use Prim.Native.Nat.{ℕ, _<_}
 use mathlib.Core.Path.{_≡_, refl, sym, _∙_, ap}
-use mathlib.Core.Bool.{Bool, true, false}
-use native.Mathlib.Omega.{arith}
+use mathlib.Core.Bool.{false}
 use borrow.Author.Tests.{leb-false, lt-ltb}
 use mathlib.Core.List.{List}
 use lib.ListN.{getD}

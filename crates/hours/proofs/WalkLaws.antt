@@ -3,17 +3,16 @@
 --     place-..           where the records of accepted bytes lie
 --     Held               what a walk that gathers the records that hold keeps
 -- Assumes nothing.
-use Prim.Native.Nat.{ℕ, suc, _+_, _*_, _≤_, _<_}
+use Prim.Native.Nat.{ℕ, _+_, _*_, _≤_, _<_}
 use mathlib.Core.Path.{_≡_, refl, sym, _∙_, ap}
 use mathlib.Core.List.{List}
 use mathlib.Core.Bool.{Bool, true, false}
-use mathlib.Core.Logic.{_⊎_}
 use native.Mathlib.Numerals.{add-one}
 use native.Mathlib.Omega.{arith}
 use native.Mathlib.Nat.{le-antisymm}
 use lib.ListN.{length}
 use Rattle.ground.specs.Judgement.{inTurn}
-use Rattle.ground.specs.Outcome.{Outcome, refused, given}
+use Rattle.ground.specs.Outcome.{refused, given}
 use Rattle.ground.proofs.OutcomeLaws.{refused-by, given-by}
 use Rattle.ground.proofs.JudgementLaws.{turns-none, turns-more, turns-stop, turns-all}
 use Rattle.bitset.specs.Sets.{setOf, insert}

@@ -1,6 +1,6 @@
--- What the answers of this crate's functions stand for.
-use Prim.Native.Nat.{ℕ, _≤_, _<_}
-use mathlib.Core.Bool.{Bool, true, false}
+-- What judging an hours record answers; and, from `RecordsRead` on, what the steps inside promise each other, which no reader has to believe.
+use Prim.Native.Nat.{ℕ, _≤_}
+use mathlib.Core.Bool.{Bool, true}
 use mathlib.Core.List.{List}
 use mathlib.Core.Path.{_≡_}
 use lib.ListN.{length}

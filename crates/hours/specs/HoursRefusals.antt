@@ -1,7 +1,7 @@
 -- Refusals 5 to 8 of hours records (document 01, "Refusals by operation", reading a rota).
 use Prim.Native.Nat.{ℕ, zero, suc, _+_, _*_}
 use mathlib.Core.List.{List}
-use mathlib.Core.Bool.{Bool, _||_}
+use mathlib.Core.Bool.{_||_}
 use lib.ListN.{length}
 use lib.Dec.{ltb, leb, eqb}
 use Rattle.ground.specs.Judgement.{refuse, _orElse_, inTurn}

@@ -2,10 +2,9 @@
 -- Assumes nothing.
 use Prim.Native.Nat.{ℕ, _<_, _≤_}
 use mathlib.Core.Path.{_≡_, refl, sym, ap, _∙_}
-use mathlib.Core.Option.{Option}
 use borrow.Author.Tests.{le-leb, lt-leb, leb-false}
-use Rattle.ground.specs.Judgement.{refuse, _orElse_}
-use Rattle.ground.specs.Outcome.{Outcome, refused, given, outcome}
+use Rattle.ground.specs.Judgement.{_orElse_}
+use Rattle.ground.specs.Outcome.{refused, given, outcome}
 use Rattle.ground.proofs.JudgementLaws.{orElse-ne, orElse-zero, refuse-yes, refuse-none, refuse-no}
 use Rattle.ground.proofs.OutcomeLaws.{outcome-refused, outcome-given}
 use Rattle.minutes.specs.Minutes.{E}

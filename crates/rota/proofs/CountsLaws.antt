@@ -1,7 +1,7 @@
 -- The counts of the header, field by field.
 -- Assumes nothing.
-use Prim.Native.Nat.{ℕ, _≤_, _+_, _*_}
-use mathlib.Core.Path.{_≡_, refl, ap}
+use Prim.Native.Nat.{ℕ, _≤_}
+use mathlib.Core.Path.{_≡_, ap}
 use mathlib.Core.List.{List}
 use lib.ListN.{length}
 use Rattle.ground.specs.Judgement.{inTurn}
@@ -11,7 +11,6 @@ use Rattle.rota.specs.RotaBytes.{headerLength, cycleOf, hoursOf, usersOf
 use Rattle.rota.specs.RotaRefusals.{headerJudged}
 use Rattle.rota.specs.Answers.{countsOf, layoutOf, Measured}
 use Rattle.rota.specs.declared.Counts.{Counts}
-use Rattle.rota.specs.declared.Layout.{Layout}
 
 pub record CountsAre (s : List ℕ) (n : Counts) : Type 0 where
   pub cycle : n .cycle ≡ cycleOf s

@@ -12,7 +12,7 @@ use Rattle.endian.specs.Numbers.{u8At}
 use Rattle.hours.specs.Hours.{dangling, refOf}
 use Rattle.hours.specs.declared.HoursRef.{HoursRef}
 use Rattle.hours.specs.Answers.{refIn}
-use Rattle.rota.specs.RotaBytes.{hoursOf, rolesOf, rolesAt, roleRef, rowAt, rowAtByte}
+use Rattle.rota.specs.RotaBytes.{hoursOf, roleRef, rowAt, rowAtByte}
 use Rattle.rota.specs.Answers.{rowIn, RowsFine, RolesFine}
 
 abbrev pub ofNumber : List ℕ → ℕ → ℕ → ℕ → ℕ → Bool

@@ -1,28 +1,23 @@
 -- What a caller that has an accepted rota's layout knows, in the layout's own words.
 -- Assumes nothing.
-use Prim.Native.Nat.{ℕ, _+_, _*_, _≤_, _<_}
-use mathlib.Core.Path.{_≡_, refl, sym, ap, ap₂, _∙_, subst}
+use Prim.Native.Nat.{ℕ, _≤_, _<_}
+use mathlib.Core.Path.{_≡_, sym, ap, ap₂, _∙_}
 use mathlib.Core.List.{List}
 use mathlib.Core.Option.{Option, none, some}
 use native.Mathlib.Omega.{arith}
-use lib.ListN.{length}
-use Rattle.ground.specs.Judgement.{inTurn, _orElse_, refuse}
-use Rattle.ground.specs.Outcome.{Outcome, refused, given, outcome}
+use Rattle.ground.specs.Judgement.{inTurn}
+use Rattle.ground.specs.Outcome.{given}
 use Rattle.ground.specs.Search.{lowestBelow}
-use Rattle.ground.proofs.JudgementLaws.{orElse-ne, refuse-yes, refuse-none}
-use Rattle.ground.proofs.OutcomeLaws.{outcome-refused, outcome-given, given-by, refused-by}
 use Rattle.ground.proofs.SequenceLaws.{listOf-length}
 use Rattle.bitset.specs.Sets.{setOf, intersection, Lowest}
 use Rattle.bitset.proofs.GatherLaws.{lowest-of, none-of}
 use Rattle.minutes.specs.Minutes.{E}
 use Rattle.hours.specs.HoursRefusals.{recordJudged}
 use Rattle.hours.specs.Answers.{holding}
-use Rattle.policy.specs.Policy.{Policy, argumentsJudged, question, holdersAt, holdersQuestion}
+use Rattle.policy.specs.Policy.{argumentsJudged, holdersAt}
 use Rattle.rota.specs.Rota.{through, answer, policyOf}
-use Rattle.rota.specs.RotaBytes.{headerLength, cycleOf, hoursOf, usersOf, permissionsOf, rolesOf, userRowsOf, permissionRowsOf, rolesAt, userRowsAt, permissionRowsAt, roleRef, rotaOf}
-use Rattle.rota.specs.RotaRefusals.{rotaJudged}
-use Rattle.rota.specs.Answers.{countsOf, layoutOf, layoutOutcome, Located, RowsFine, RolesFine, rolesEnabled, rolesOfNumber, rolesAssigned, usersWith, questionRoles}
-use Rattle.rota.specs.declared.Counts.{Counts}
+use Rattle.rota.specs.RotaBytes.{headerLength, cycleOf, hoursOf, usersOf, rolesOf, userRowsOf, rolesAt, userRowsAt, permissionRowsAt, roleRef, rotaOf}
+use Rattle.rota.specs.Answers.{layoutOf, layoutOutcome, Located, RowsFine, RolesFine, rolesEnabled, rolesOfNumber, rolesAssigned, usersWith, questionRoles}
 use Rattle.rota.specs.declared.Layout.{Layout}
 use Rattle.rota.proofs.RotaFine.{RotaFine, rota-fine}
 use Rattle.rota.proofs.CountsLaws.{CountsAre, counts-are}

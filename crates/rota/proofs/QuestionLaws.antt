@@ -2,15 +2,13 @@
 --     on-is, given-is                    a role is enabled; a row gives a role
 --     through-is, holders-are            the roles of a question, and the users who hold any permission
 -- Assumes nothing.
-use Prim.Native.Nat.{ℕ, _+_, _*_, _≤_, _<_}
+use Prim.Native.Nat.{ℕ, _≤_, _<_}
 use mathlib.Core.Path.{_≡_, refl, sym, ap, ap₂, _∙_}
-use mathlib.Core.Bool.{Bool, true, false, _&&_}
-use mathlib.Core.Option.{Option, none, some}
+use mathlib.Core.Bool.{Bool, true, _&&_}
 use mathlib.Core.List.{List}
 use native.Mathlib.Omega.{arith}
 use borrow.Author.Tests.{eqb-true, eq-eqb}
 use lib.Dec.{eqb}
-use lib.ListN.{length, getD}
 use Rattle.ground.specs.Sequence.{listOf}
 use Rattle.ground.specs.Search.{anyBelow, lowestBelow}
 use Rattle.ground.proofs.BoolLaws.{eq-ext, and-swap, and-yes, and-both, and-three, and-all}
@@ -25,7 +23,7 @@ use Rattle.hours.specs.declared.HoursRef.the-variants.{Always}
 use Rattle.hours.proofs.RefLaws.{ref-in}
 use Rattle.policy.specs.Policy.{isYes, holdsAny, holdersAt}
 use Rattle.policy.proofs.PolicyLaws.{yes-is}
-use Rattle.rota.specs.Rota.{Row, enabled, assigned, hasUser, hasPermission, through, answer, policyOf}
+use Rattle.rota.specs.Rota.{enabled, assigned, hasUser, hasPermission, through, answer, policyOf}
 use Rattle.rota.specs.RotaBytes.{headerLength, cycleOf, hoursOf, usersOf, permissionsOf, rolesOf, userRowsOf, permissionRowsOf, userRowsAt, permissionRowsAt, roleRef, rowAt, rotaOf}
 use Rattle.rota.specs.RotaRefusals.{rotaJudged}
 use Rattle.rota.specs.Answers.{RowsFine, rowIn, rolesOfNumber, rolesAssigned, rolesEnabled, usersWith}

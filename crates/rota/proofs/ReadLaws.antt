@@ -1,12 +1,12 @@
 -- The reader's outcome, by the stage at which reading stops.
 -- Assumes nothing.
-use Prim.Native.Nat.{ℕ, _+_, _*_}
+use Prim.Native.Nat.{ℕ}
 use mathlib.Core.Path.{_≡_, refl, sym, _∙_, ap}
 use mathlib.Core.List.{List}
 use borrow.Author.Tests.{eq-eqb, ne-eqb}
 use lib.ListN.{length}
 use Rattle.ground.specs.Judgement.{refuse, _orElse_, inTurn}
-use Rattle.ground.specs.Outcome.{Outcome, refused, given, outcome}
+use Rattle.ground.specs.Outcome.{refused, given}
 use Rattle.ground.proofs.JudgementLaws.{orElse-ne}
 use Rattle.ground.proofs.OutcomeLaws.{outcome-refused, outcome-given, refused-by, given-by}
 use Rattle.hours.specs.HoursRefusals.{recordJudged}

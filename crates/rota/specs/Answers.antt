@@ -1,4 +1,4 @@
--- What reading a rota answers.
+-- What reading a rota answers; and, from `layoutOf` on, what the steps inside promise each other, which no reader has to believe.
 use Prim.Native.Nat.{ℕ, _+_, _*_, _≤_, _<_}
 use mathlib.Core.Path.{_≡_}
 use mathlib.Core.Bool.{Bool, false, not, _&&_}

@@ -1,5 +1,5 @@
 -- Refusals 1 to 12 (document 01, "Refusals by operation", reading a rota).
-use Prim.Native.Nat.{ℕ, _+_, _*_}
+use Prim.Native.Nat.{ℕ}
 use mathlib.Core.List.{List}
 use mathlib.Core.Bool.{Bool, not, _||_}
 use lib.ListN.{length}
@@ -9,7 +9,7 @@ use Rattle.endian.specs.Numbers.{u16At}
 use Rattle.hours.specs.Hours.{dangling}
 use Rattle.hours.specs.HoursRefusals.{recordJudged}
 use Rattle.rota.specs.Rota.{Row}
-use Rattle.rota.specs.RotaBytes.{headerLength, cycleOf, hoursOf, usersOf, permissionsOf, rolesOf, userRowsOf, permissionRowsOf, rolesAt, userRowsAt, permissionRowsAt, endsAt, roleRef, rowAt}
+use Rattle.rota.specs.RotaBytes.{headerLength, cycleOf, hoursOf, usersOf, permissionsOf, rolesOf, userRowsOf, permissionRowsOf, userRowsAt, permissionRowsAt, endsAt, roleRef, rowAt}
 
 -- a count of the header over its limit
 unfoldable pub countsOver : List ℕ → Bool

@@ -12,7 +12,7 @@ ghost use Rattle.ground.specs.Outcome.{given};
 ghost use Rattle.minutes.specs.Minutes.{E};
 ghost use Rattle.policy.specs.Policy.{question, answerGiven, holdersAt, holdersQuestion, holdersGiven};
 ghost use Rattle.rota.specs.Rota.{answer, policyOf};
-ghost use Rattle.rota.specs.RotaBytes.{rotaOf, rolesAt, userRowsAt, permissionRowsAt, userRowsOf, permissionRowsOf, rolesOf, hoursOf, usersOf, rowAtByte};
+ghost use Rattle.rota.specs.RotaBytes.{rotaOf, rolesAt, rolesOf, hoursOf, usersOf, rowAtByte};
 ghost use Rattle.rota.specs.RotaRefusals.{countsOver, headerJudged, roleJudged, rowBad, rowJudged, rotaJudged};
 ghost use Rattle.rota.specs.Answers.{rotaGiven, readOutcome, layoutGiven, layoutOutcome, countsOf, restJudged, Measured, Located, RowsFine, RolesFine, rolesOfNumber, rolesAssigned, rolesEnabled, usersWith, questionRoles};
 use hours::decode;

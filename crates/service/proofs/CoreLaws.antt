@@ -9,10 +9,10 @@ use Rattle.ground.specs.Judgement.{refuse, _orElse_}
 use Rattle.ground.specs.Outcome.{refused, given}
 use Rattle.ground.proofs.BoolLaws.{or-no}
 use Rattle.ground.proofs.JudgementLaws.{orElse-ne, orElse-zero, refuse-no}
-use Rattle.bitset.specs.Sets.{intersection, difference, count}
+use Rattle.bitset.specs.Sets.{has, intersection, difference, count}
 use Rattle.minutes.specs.Minutes.{E}
-use Rattle.service.specs.Machine.{Gift, closed, state}
-use Rattle.service.specs.Core.{stateBy, advanceBy, openBy, closeBy, askBy, settled, movedStep}
+use Rattle.service.specs.Machine.{Gift, closed, state, stateJudged, advanceJudged, openJudged, closeJudged, askJudged, settled}
+use Rattle.service.specs.Core.{movedStep}
 use Rattle.service.specs.declared.Service.{Service}
 
 -- a first judgement n that refuses; one that does not, before b
@@ -25,44 +25,44 @@ onward n a b m e z h = rw (← e, z) h
 
 -- 40
 module _ (users : ℕ) (σ : Service) where
-  pub state-late : E ≤ σ .now → 40 ≡ stateBy users σ
-  unfolding stateBy refuse
+  pub state-late : E ≤ σ .now → 40 ≡ stateJudged users σ
+  unfolding stateJudged refuse
   state-late h = rw (le-leb E (σ .now) h) refl
 
   module _ (early : σ .now < E) (b : Bool) (eb : b ≡ ltb (σ .«open») (2 ^ users)) where
-    pub state-fine : b ≡ true → 0 ≡ stateBy users σ
-    unfolding stateBy refuse
+    pub state-fine : b ≡ true → 0 ≡ stateJudged users σ
+    unfolding stateJudged refuse
     state-fine t = rw (lt-leb E (σ .now) early, lt-leb (2 ^ users) (σ .«open») (ltb-true _ _ (sym eb ∙ t))) refl
 
-    pub state-over : b ≡ false → 40 ≡ stateBy users σ
-    unfolding stateBy refuse
+    pub state-over : b ≡ false → 40 ≡ stateJudged users σ
+    unfolding stateJudged refuse
     state-over t = rw (lt-leb E (σ .now) early, le-leb (2 ^ users) (σ .«open») (ltb-false _ _ (sym eb ∙ t))) refl
 
-  pub state-early : (n : ℕ) → n ≡ stateBy users σ → n ≡ 0 → σ .now < E
-  unfolding stateBy
+  pub state-early : (n : ℕ) → n ≡ stateJudged users σ → n ≡ 0 → σ .now < E
+  unfolding stateJudged
   state-early n e z = leb-false E (σ .now) (or-no _ _ (refuse-no 39 _ (sym e ∙ z)) .0)
 
   -- what the judgements of calls that are not refused tell
-  pub advance-early : (m n : ℕ) → n ≡ stateBy users σ orElse advanceBy σ m → n ≡ 0 → m < E
-  unfolding advanceBy
-  advance-early m n e z = leb-false E m (refuse-no 32 _ (orElse-zero _ _ (orElse-zero (stateBy users σ) _ (sym e ∙ z) .1) .0))
+  pub advance-early : (m n : ℕ) → n ≡ stateJudged users σ orElse advanceJudged σ m → n ≡ 0 → m < E
+  unfolding advanceJudged
+  advance-early m n e z = leb-false E m (refuse-no 32 _ (orElse-zero _ _ (orElse-zero (stateJudged users σ) _ (sym e ∙ z) .1) .0))
 
-  pub close-inside : (u n : ℕ) → n ≡ stateBy users σ orElse closeBy users σ u → n ≡ 0 → u < users
-  unfolding closeBy
-  close-inside u n e z = leb-false users u (refuse-no 33 _ (orElse-zero _ _ (orElse-zero (stateBy users σ) _ (sym e ∙ z) .1) .0))
+  pub close-inside : (u n : ℕ) → n ≡ stateJudged users σ orElse closeJudged users σ u → n ≡ 0 → u < users
+  unfolding closeJudged
+  close-inside u n e z = leb-false users u (refuse-no 33 _ (orElse-zero _ _ (orElse-zero (stateJudged users σ) _ (sym e ∙ z) .1) .0))
 
-  pub open-inside : (holders u n : ℕ) → n ≡ openBy users holders σ u → n ≡ 0 → u < users
-  unfolding openBy
+  pub open-inside : (holders u n : ℕ) → n ≡ openJudged users (has holders u) σ u → n ≡ 0 → u < users
+  unfolding openJudged
   open-inside holders u n e z = leb-false users u (refuse-no 33 _ (orElse-zero _ _ (sym e ∙ z) .0))
 
-  module _ (permissions u p n : ℕ) (e : n ≡ stateBy users σ orElse askBy users permissions σ u p) (z : n ≡ 0) where
+  module _ (permissions u p n : ℕ) (e : n ≡ stateJudged users σ orElse askJudged users permissions σ u p) (z : n ≡ 0) where
     pub ask-early : σ .now < E
-    ask-early = state-early 0 (sym (orElse-zero (stateBy users σ) _ (sym e ∙ z) .0)) refl
+    ask-early = state-early 0 (sym (orElse-zero (stateJudged users σ) _ (sym e ∙ z) .0)) refl
 
     pub ask-inside : (u < users) × (p < permissions)
-    unfolding askBy
+    unfolding askJudged
     ask-inside =
-        let a = orElse-zero (refuse 34 (leb users u)) _ (orElse-zero (stateBy users σ) _ (sym e ∙ z) .1) in
+        let a = orElse-zero (refuse 34 (leb users u)) _ (orElse-zero (stateJudged users σ) _ (sym e ∙ z) .1) in
         let b = orElse-zero (refuse 35 (leb permissions p)) _ (a .1) in
         (leb-false users u (refuse-no 33 _ (a .0)), leb-false permissions p (refuse-no 34 _ (b .0)))
 

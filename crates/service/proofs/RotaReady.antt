@@ -4,7 +4,6 @@ use Prim.Native.Nat.{ℕ}
 use mathlib.Core.Path.{_≡_, sym, ap, _∙_}
 use mathlib.Core.List.{List}
 use native.Mathlib.Omega.{arith}
-use Rattle.ground.specs.Outcome.{refused}
 use Rattle.rota.specs.Rota.{policyOf}
 use Rattle.rota.specs.RotaBytes.{rotaOf}
 use Rattle.rota.specs.RotaRefusals.{rotaJudged}

@@ -1,8 +1,8 @@
 -- The calls' parts make up the calls of the machine, over any policy whose counts are at hand.
 -- Assumes nothing.
-use Prim.Native.Nat.{ℕ, zero, suc, _^_, _<_, _≤_}
+use Prim.Native.Nat.{ℕ, _^_, _<_, _≤_}
 use mathlib.Core.Path.{_≡_, refl, sym, ap, ap₂, _∙_}
-use mathlib.Core.Bool.{Bool, true, false, not, _&&_}
+use mathlib.Core.Bool.{Bool, true, false, _&&_}
 use mathlib.Core.Option.{Option}
 use borrow.Author.Tests.{leb-false}
 use native.Mathlib.Omega.{arith}
@@ -13,8 +13,9 @@ use Rattle.ground.proofs.JudgementLaws.{orElse-ne}
 use Rattle.bitset.specs.Sets.{has, setOf, intersection, difference, count}
 use Rattle.bitset.proofs.SetLaws.{ext, has-setOf, has-below, has-intersection, setOf-lt, fits-64}
 use Rattle.policy.specs.Policy.{Policy, holdsAny, holdersAt}
-use Rattle.service.specs.Machine.{Call, advance, «open», close, ask, closed, state, staying, stateJudged, callJudged, given-by, left-by, stepBy, serviceStep}
-use Rattle.service.specs.Core.{stateBy, advanceBy, openBy, closeBy, askBy, settled, movedStep, openedStep, closedStep, answeredStep}
+use Rattle.service.proofs.CoreLaws.{settled-refused, settled-given}
+use Rattle.service.specs.Machine.{Call, advance, «open», close, ask, closed, state, staying, stateJudged, advanceJudged, openJudged, closeJudged, askJudged, callJudged, given-by, left-by, stepBy, serviceStep}
+use Rattle.service.specs.Core.{movedStep, openedStep, closedStep, answeredStep}
 use Rattle.service.specs.declared.Service.{Service}
 
 -- lent bytes that are judged to be j are accepted, and these are the counts of what they say
@@ -36,19 +37,13 @@ unfolding intersection
 both-below x y = setOf-lt 64 _
 
 module _ (π : Policy) (σ : Service) where
-  step-settled : (n : ℕ) (c : Call) → settled n (given-by π σ c) (left-by π σ c) σ ≡ stepBy n π σ c
-  unfolding settled stepBy
-  step-settled zero c = refl
-  step-settled (suc n) c = refl
-
   step-refused : (n : ℕ) (c : Call) → (n ≡ 0 → ⊥) → record { outcome = refused n; after = σ } ≡ stepBy n π σ c
   unfolding stepBy
-  step-refused zero c h = absurd (h refl)
-  step-refused (suc n) c h = refl
+  step-refused n c h = settled-refused n _ _ σ n refl h
 
   step-given : (n : ℕ) (c : Call) → n ≡ 0 → record { outcome = given (given-by π σ c); after = left-by π σ c } ≡ stepBy n π σ c
   unfolding stepBy
-  step-given n c h = rw h refl
+  step-given n c h = settled-given n _ _ σ n refl h
 
   -- the bytes are refused
   pub bytes-refused : (j n : ℕ) (c : Call) → (j ≡ n) × (j ≡ 0 → ⊥) → record { outcome = refused n; after = σ } ≡ serviceStep j π σ c
@@ -58,48 +53,45 @@ module _ (π : Policy) (σ : Service) where
 
 module _ {j users permissions : ℕ} {π : Policy} (w : Ready j users permissions π) (σ : Service) where
   -- a call judged by n
-  judged : (n : ℕ) (c : Call) → n ≡ stateJudged π σ orElse callJudged π σ c → stepBy n π σ c ≡ serviceStep j π σ c
+  judged : (n : ℕ) (c : Call) → n ≡ stateJudged (π .users) σ orElse callJudged π σ c → stepBy n π σ c ≡ serviceStep j π σ c
   unfolding serviceStep _orElse_
   judged n c e = rw (w .accepted, ← e) refl
 
-  call-refused : (n : ℕ) (c : Call) → n ≡ stateJudged π σ orElse callJudged π σ c → (n ≡ 0 → ⊥) → record { outcome = refused n; after = σ } ≡ serviceStep j π σ c
+  call-refused : (n : ℕ) (c : Call) → n ≡ stateJudged (π .users) σ orElse callJudged π σ c → (n ≡ 0 → ⊥) → record { outcome = refused n; after = σ } ≡ serviceStep j π σ c
   call-refused n c e h = step-refused π σ n c h ∙ judged n c e
 
-  call-given : (n : ℕ) (c : Call) → n ≡ stateJudged π σ orElse callJudged π σ c → n ≡ 0
+  call-given : (n : ℕ) (c : Call) → n ≡ stateJudged (π .users) σ orElse callJudged π σ c → n ≡ 0
       → record { outcome = given (given-by π σ c); after = left-by π σ c } ≡ serviceStep j π σ c
   call-given n c e z = step-given π σ n c z ∙ judged n c e
 
-  state-as : stateBy users σ ≡ stateJudged π σ
-  unfolding stateBy stateJudged
-  state-as = rw (w .users-are) refl
+  state-as : stateJudged users σ ≡ stateJudged (π .users) σ
+  state-as = ap (λ (n : ℕ). stateJudged n σ) (w .users-are)
 
   small : π .users ≤ 64
   small = omega (arith, w .few, w .users-are)
 
   -- the judgements by the counts are those by the policy
-  advance-as : (m n : ℕ) → n ≡ stateBy users σ orElse advanceBy σ m → n ≡ stateJudged π σ orElse callJudged π σ (advance m)
-  unfolding advanceBy callJudged
+  advance-as : (m n : ℕ) → n ≡ stateJudged users σ orElse advanceJudged σ m → n ≡ stateJudged (π .users) σ orElse callJudged π σ (advance m)
+  unfolding callJudged
   advance-as m n e = rw state-as at e
 
-  close-as : (u : ℕ) → closeBy users σ u ≡ callJudged π σ (close u)
-  unfolding closeBy callJudged
-  close-as u = rw (w .users-are) refl
+  close-as : (u : ℕ) → closeJudged users σ u ≡ callJudged π σ (close u)
+  unfolding callJudged
+  close-as u = ap (λ (n : ℕ). closeJudged n σ u) (w .users-are)
 
-  ask-as : (u p n : ℕ) → n ≡ stateBy users σ orElse askBy users permissions σ u p → n ≡ stateJudged π σ orElse callJudged π σ (ask u p)
-  unfolding askBy callJudged
+  ask-as : (u p n : ℕ) → n ≡ stateJudged users σ orElse askJudged users permissions σ u p → n ≡ stateJudged (π .users) σ orElse callJudged π σ (ask u p)
+  unfolding callJudged
   ask-as u p n e = rw (state-as, w .users-are, w .permissions-are) at e
 
   has-holder : (t u : ℕ) → u < π .users → has (holdersAt π t) u ≡ holdsAny π t u
   unfolding holdersAt
   has-holder t u l = has-below (π .users) (holdsAny π t) u l
 
-  open-as : (holders u : ℕ) → holders ≡ holdersAt π (σ .now) → openBy users holders σ u ≡ callJudged π σ («open» u)
-  unfolding openBy callJudged refuse _orElse_
+  open-as : (holders u : ℕ) → holders ≡ holdersAt π (σ .now) → openJudged users (has holders u) σ u ≡ callJudged π σ («open» u)
+  unfolding openJudged callJudged refuse _orElse_
   open-as holders u e = rw (w .users-are, e) (go (leb (π .users) u) refl)
     where
-      go : (b : Bool) → leb (π .users) u ≡ b
-          → refuse 34 (leb (π .users) u) orElse refuse 42 (has (σ .«open») u) orElse refuse 43 (not (has (holdersAt π (σ .now)) u))
-          ≡ refuse 34 (leb (π .users) u) orElse refuse 42 (has (σ .«open») u) orElse refuse 43 (not (holdsAny π (σ .now) u))
+      go : (b : Bool) → leb (π .users) u ≡ b → openJudged (π .users) (has (holdersAt π (σ .now)) u) σ u ≡ openJudged (π .users) (holdsAny π (σ .now) u) σ u
       go true h = rw h refl
       go false h = rw (has-holder (σ .now) u (leb-false _ _ h)) refl
 
@@ -113,10 +105,10 @@ module _ {j users permissions : ℕ} {π : Policy} (w : Ready j users permission
       ∙ and-turn (has (σ .«open») i) (ltb i (π .users)) (holdsAny π m i) ∙ sym (has-setOf (π .users) _ i))
 
   -- advance
-  pub advance-refused : (m n : ℕ) → n ≡ stateBy users σ orElse advanceBy σ m → (n ≡ 0 → ⊥) → record { outcome = refused n; after = σ } ≡ serviceStep j π σ (advance m)
+  pub advance-refused : (m n : ℕ) → n ≡ stateJudged users σ orElse advanceJudged σ m → (n ≡ 0 → ⊥) → record { outcome = refused n; after = σ } ≡ serviceStep j π σ (advance m)
   advance-refused m n e h = call-refused n (advance m) (advance-as m n e) h
 
-  pub advance-moved : (m n holders : ℕ) → n ≡ stateBy users σ orElse advanceBy σ m → n ≡ 0 → holders ≡ holdersAt π m
+  pub advance-moved : (m n holders : ℕ) → n ≡ stateJudged users σ orElse advanceJudged σ m → n ≡ 0 → holders ≡ holdersAt π m
       → movedStep holders σ m ≡ serviceStep j π σ (advance m)
   unfolding movedStep given-by left-by
   advance-moved m n holders e z h =
@@ -124,28 +116,26 @@ module _ {j users permissions : ℕ} {π : Policy} (w : Ready j users permission
       ∙ call-given n (advance m) (advance-as m n e) z
 
   -- open
-  pub open-refused : (u n : ℕ) → n ≡ stateBy users σ → (n ≡ 0 → ⊥) → record { outcome = refused n; after = σ } ≡ serviceStep j π σ («open» u)
+  pub open-refused : (u n : ℕ) → n ≡ stateJudged users σ → (n ≡ 0 → ⊥) → record { outcome = refused n; after = σ } ≡ serviceStep j π σ («open» u)
   open-refused u n e h = call-refused n («open» u) (e ∙ state-as ∙ sym (orElse-ne _ _ (λ z. h (e ∙ state-as ∙ z)))) h
 
-  pub open-opened : (u n holders : ℕ) → n ≡ stateBy users σ → n ≡ 0 → holders ≡ holdersAt π (σ .now) → openedStep users holders σ u ≡ serviceStep j π σ («open» u)
-  unfolding openedStep given-by left-by _orElse_
+  pub open-opened : (u n holders : ℕ) → n ≡ stateJudged users σ → n ≡ 0 → holders ≡ holdersAt π (σ .now) → openedStep users holders σ u ≡ serviceStep j π σ («open» u)
+  unfolding openedStep stepBy given-by left-by _orElse_
   open-opened u n holders e z h =
-      step-settled π σ (openBy users holders σ u) («open» u)
-      ∙ judged (openBy users holders σ u) («open» u) (rw (← state-as, ← e, z) (open-as holders u h))
+      judged (openJudged users (has holders u) σ u) («open» u) (rw (← state-as, ← e, z) (open-as holders u h))
 
   -- close
   pub close-closed : (u : ℕ) → closedStep users σ u ≡ serviceStep j π σ (close u)
-  unfolding closedStep given-by left-by
+  unfolding closedStep stepBy given-by left-by
   close-closed u =
-      step-settled π σ (stateBy users σ orElse closeBy users σ u) (close u)
-      ∙ judged (stateBy users σ orElse closeBy users σ u) (close u) (ap₂ _orElse_ state-as (close-as u))
+      judged (stateJudged users σ orElse closeJudged users σ u) (close u) (ap₂ _orElse_ state-as (close-as u))
 
   -- ask
-  pub ask-refused : (u p n : ℕ) → n ≡ stateBy users σ orElse askBy users permissions σ u p → (n ≡ 0 → ⊥)
+  pub ask-refused : (u p n : ℕ) → n ≡ stateJudged users σ orElse askJudged users permissions σ u p → (n ≡ 0 → ⊥)
       → record { outcome = refused n; after = σ } ≡ serviceStep j π σ (ask u p)
   ask-refused u p n e h = call-refused n (ask u p) (ask-as u p n e) h
 
-  pub ask-answered : (u p n : ℕ) (o : Outcome (Option ℕ)) → n ≡ stateBy users σ orElse askBy users permissions σ u p → n ≡ 0
+  pub ask-answered : (u p n : ℕ) (o : Outcome (Option ℕ)) → n ≡ stateJudged users σ orElse askJudged users permissions σ u p → n ≡ 0
       → o ≡ given (π .answer u p (σ .now)) → answeredStep o σ ≡ serviceStep j π σ (ask u p)
   unfolding answeredStep given-by left-by
   ask-answered u p n o e z h = ap (λ (x : Outcome (Option ℕ)). answeredStep x σ) h ∙ call-given n (ask u p) (ask-as u p n e) z

@@ -12,7 +12,7 @@ use Rattle.table.specs.declared.Counts.{Counts}
 use Rattle.table.specs.declared.TableAnswer.{TableAnswer}
 use Rattle.table.specs.declared.TableAnswer.the-variants.{Accepted, Refused}
 use Rattle.table.proofs.HeaderLaws.{counts-are}
-use Rattle.table.proofs.TableFine.{table-fine}
+use Rattle.table.proofs.FineLaws.{table-fine}
 use Rattle.table.proofs.ReadLaws.{closed, opened}
 use Rattle.service.proofs.StepLaws.{Ready}
 

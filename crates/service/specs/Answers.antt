@@ -1,5 +1,4 @@
 -- What each case of the calls' answers stands for: 01's number or values, and the state.
-use Prim.Native.Nat.{ℕ}
 use mathlib.Core.Option.{none, some}
 use Rattle.ground.specs.Outcome.{refused, given}
 use Rattle.service.specs.Machine.{Step, closed, done, answered}

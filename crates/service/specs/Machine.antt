@@ -1,7 +1,7 @@
 -- The plain machine (document 01, "The service"; refusals 40 to 44). It is fed what answers questions, a policy, and the calls' arguments, and
 -- keeps a state of its own. It knows nothing of bytes.
 use Prim.Native.Nat.{ℕ, zero, suc, _^_}
-use mathlib.Core.Bool.{not, _&&_, _||_}
+use mathlib.Core.Bool.{Bool, not, _&&_, _||_}
 use mathlib.Core.Option.{Option}
 use mathlib.Core.List.{List, [], _∷_}
 use lib.Dec.{leb, ltb}
@@ -41,17 +41,27 @@ unfoldable pub staying : Policy → ℕ → ℕ → ℕ
 staying π sessions m = setOf (π .users) (λ u. has sessions u && holdsAny π m u)
 
 -- 40: now over E - 1, or a bit of open at or above U
-unfoldable pub stateJudged : Policy → Service → ℕ
-stateJudged π σ = refuse 40 (leb E (σ .now) || leb (2 ^ π .users) (σ .«open»))
+unfoldable pub stateJudged : ℕ → Service → ℕ
+stateJudged users σ = refuse 40 (leb E (σ .now) || leb (2 ^ users) (σ .«open»))
 
--- each call's own refusals, in order
+-- each call's own refusals, in order; `holds` says whether u holds a permission now
+unfoldable pub advanceJudged : Service → ℕ → ℕ
+advanceJudged σ m = refuse 33 (leb E m) orElse refuse 41 (ltb m (σ .now))
+
+unfoldable pub openJudged : ℕ → Bool → Service → ℕ → ℕ
+openJudged users holds σ u = refuse 34 (leb users u) orElse refuse 42 (has (σ .«open») u) orElse refuse 43 (not holds)
+
+unfoldable pub closeJudged : ℕ → Service → ℕ → ℕ
+closeJudged users σ u = refuse 34 (leb users u) orElse refuse 44 (not (has (σ .«open») u))
+
+unfoldable pub askJudged : ℕ → ℕ → Service → ℕ → ℕ → ℕ
+askJudged users permissions σ u p = refuse 34 (leb users u) orElse refuse 35 (leb permissions p) orElse refuse 44 (not (has (σ .«open») u))
+
 unfoldable pub callJudged : Policy → Service → Call → ℕ
-callJudged π σ (advance m) = refuse 33 (leb E m) orElse refuse 41 (ltb m (σ .now))
-callJudged π σ («open» u) =
-    refuse 34 (leb (π .users) u) orElse refuse 42 (has (σ .«open») u) orElse refuse 43 (not (holdsAny π (σ .now) u))
-callJudged π σ (close u) = refuse 34 (leb (π .users) u) orElse refuse 44 (not (has (σ .«open») u))
-callJudged π σ (ask u p) =
-    refuse 34 (leb (π .users) u) orElse refuse 35 (leb (π .permissions) p) orElse refuse 44 (not (has (σ .«open») u))
+callJudged π σ (advance m) = advanceJudged σ m
+callJudged π σ («open» u) = openJudged (π .users) (holdsAny π (σ .now) u) σ u
+callJudged π σ (close u) = closeJudged (π .users) σ u
+callJudged π σ (ask u p) = askJudged (π .users) (π .permissions) σ u p
 
 -- what a call that is not refused gives, and the state that it leaves
 unfoldable pub given-by : Policy → Service → Call → Gift
@@ -66,17 +76,20 @@ left-by π σ («open» u) = state (σ .now) (insert (σ .«open») u)
 left-by π σ (close u) = state (σ .now) (remove (σ .«open») u)
 left-by π σ (ask u p) = σ
 
--- a refused call gives the first number that applies, and the state stays
+-- a refused call gives the first number that applies, and the state σ stays
+unfoldable pub settled : ℕ → Gift → Service → Service → Step
+settled zero gift after σ = record { outcome = given gift; after = after }
+settled (suc n) gift after σ = record { outcome = refused (suc n); after = σ }
+
 unfoldable pub stepBy : ℕ → Policy → Service → Call → Step
-stepBy zero π σ c = record { outcome = given (given-by π σ c); after = left-by π σ c }
-stepBy (suc n) π σ c = record { outcome = refused (suc n); after = σ }
+stepBy j π σ c = settled j (given-by π σ c) (left-by π σ c) σ
 
 -- one call of the machine; behind lent bytes that are judged to be j, one call of a service
 unfoldable pub machineStep : Policy → Service → Call → Step
-machineStep π σ c = stepBy (stateJudged π σ orElse callJudged π σ c) π σ c
+machineStep π σ c = stepBy (stateJudged (π .users) σ orElse callJudged π σ c) π σ c
 
 unfoldable pub serviceStep : ℕ → Policy → Service → Call → Step
-serviceStep j π σ c = stepBy (j orElse stateJudged π σ orElse callJudged π σ c) π σ c
+serviceStep j π σ c = stepBy (j orElse stateJudged (π .users) σ orElse callJudged π σ c) π σ c
 
 -- a whole list of calls: each gets the state that the call before it left
 pub record Run : Type 0 where

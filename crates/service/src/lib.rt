@@ -2,6 +2,7 @@
 ghost use mathlib.Core.Path.{_≡_};
 ghost use Prim.Native.Nat.{_≤_};
 ghost use Rattle.ground.specs.Judgement.{_orElse_};
+ghost use Rattle.bitset.specs.Sets.{has};
 ghost use Rattle.policy.specs.Policy.{answerGiven};
 ghost use Rattle.rota.specs.Rota.{policyOf as rotaPolicy};
 ghost use Rattle.rota.specs.RotaBytes.{rotaOf};
@@ -9,9 +10,9 @@ ghost use Rattle.rota.specs.RotaRefusals.{rotaJudged};
 ghost use Rattle.table.specs.Table.{policyOf as tablePolicy};
 ghost use Rattle.table.specs.TableBytes.{tableOf};
 ghost use Rattle.table.specs.TableRefusals.{tableJudged};
-ghost use Rattle.service.specs.Machine.{serviceStep, advance, «open», close, ask};
+ghost use Rattle.service.specs.Machine.{stateJudged, advanceJudged, openJudged, closeJudged, askJudged, serviceStep, advance, «open», close, ask};
 ghost use Rattle.service.specs.Answers.{advancedStep, changedStep, askedStep};
-ghost use Rattle.service.specs.Core.{stateBy, advanceBy, openBy, closeBy, askBy, movedStep, openedStep, closedStep, answeredStep};
+ghost use Rattle.service.specs.Core.{movedStep, openedStep, closedStep, answeredStep};
 use policy::Answer;
 use rota::LayoutAnswer;
 use table::TableAnswer;
@@ -45,7 +46,7 @@ pub enum Asked {
 // 40 where the state is not one of a policy of so many users, else 0.
 fn judge_state(users: u32, service: Service) -> u8
     requires { ⌜ users ≤ 64 ⌝ }
-    ensures { λ r. ⌜ r ≡ stateBy users service ⌝ }
+    ensures { λ r. ⌜ r ≡ stateJudged users service ⌝ }
 {
     if minutes::END <= service.now {
         return 40;
@@ -60,7 +61,7 @@ fn judge_state(users: u32, service: Service) -> u8
 // The first refusal of an advance, after those of the bytes, else 0.
 fn judge_advance(users: u32, service: Service, m: u32) -> u8
     requires { ⌜ users ≤ 64 ⌝ }
-    ensures { λ r. ⌜ r ≡ stateBy users service orElse advanceBy service m ⌝ }
+    ensures { λ r. ⌜ r ≡ stateJudged users service orElse advanceJudged service m ⌝ }
 {
     let bad = judge_state(users, service);
     if bad != 0 {
@@ -78,7 +79,7 @@ fn judge_advance(users: u32, service: Service, m: u32) -> u8
 // The first refusal of an open's own, else 0. The holders are those who hold a permission now.
 fn judge_open(users: u32, holders: u64, service: Service, u: u32) -> u8
     requires { ⌜ users ≤ 64 ⌝ }
-    ensures { λ r. ⌜ r ≡ openBy users holders service u ⌝ }
+    ensures { λ r. ⌜ r ≡ openJudged users (has holders u) service u ⌝ }
 {
     if users <= u {
         return 34;
@@ -92,7 +93,7 @@ fn judge_open(users: u32, holders: u64, service: Service, u: u32) -> u8
 // The first refusal of a close, after those of the bytes, else 0.
 fn judge_close(users: u32, service: Service, u: u32) -> u8
     requires { ⌜ users ≤ 64 ⌝ }
-    ensures { λ r. ⌜ r ≡ stateBy users service orElse closeBy users service u ⌝ }
+    ensures { λ r. ⌜ r ≡ stateJudged users service orElse closeJudged users service u ⌝ }
 {
     let bad = judge_state(users, service);
     if bad != 0 {
@@ -111,7 +112,7 @@ fn judge_close(users: u32, service: Service, u: u32) -> u8
 // The first refusal of an ask, after those of the bytes, else 0.
 fn judge_ask(users: u32, permissions: u32, service: Service, u: u32, p: u32) -> u8
     requires { ⌜ users ≤ 64 ⌝ }
-    ensures { λ r. ⌜ r ≡ stateBy users service orElse askBy users permissions service u p ⌝ }
+    ensures { λ r. ⌜ r ≡ stateJudged users service orElse askJudged users permissions service u p ⌝ }
 {
     let bad = judge_state(users, service);
     if bad != 0 {

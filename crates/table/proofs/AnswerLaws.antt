@@ -6,7 +6,7 @@
 use Rattle.ground.proofs.BoolLaws.{lt-or-le, and-yes, and-both, and-three, clash, not-yes}
 use Prim.Native.Nat.{ℕ, _+_, _*_, _%_, _≤_, _<_}
 use mathlib.Core.Path.{_≡_, refl, sym, _∙_, ap}
-use mathlib.Core.Logic.{_⊎_, ⊎-elim}
+use mathlib.Core.Logic.{⊎-elim}
 use mathlib.Core.List.{List}
 use mathlib.Core.Option.{none, some}
 use mathlib.Core.Bool.{Bool, true, false, _&&_}
@@ -27,7 +27,8 @@ use Rattle.table.specs.TableRefusals.{sourceOf}
 use Rattle.table.specs.Answers.{Opened, RowInside, rowGrants}
 use Rattle.table.specs.declared.Counts.{Counts}
 use Rattle.table.proofs.HeaderLaws.{counts-are}
-use Rattle.table.proofs.TableFine.{TableFine, table-fine, sources-up}
+use Rattle.table.proofs.FineLaws.{TableFine, table-fine}
+use Rattle.table.proofs.SourceLaws.{sources-up}
 
 -- row i begins here
 abbrev pub rowPlace : List ℕ → ℕ → ℕ

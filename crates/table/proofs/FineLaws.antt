@@ -3,7 +3,7 @@
 -- Assumes nothing.
 use Prim.Native.Nat.{ℕ, _+_, _*_, _^_, _≤_, _<_}
 use mathlib.Core.Path.{_≡_}
-use mathlib.Core.Bool.{true}
+use mathlib.Core.Bool.{true, false}
 use mathlib.Core.List.{List}
 use native.Mathlib.Omega.{arith}
 use borrow.Author.Tests.{ltb-false, leb-false, eqb-true, not-false, le-ltb, lt-leb, eq-eqb, ne-eqb}
@@ -14,6 +14,7 @@ use Rattle.ground.proofs.BoolLaws.{or-no}
 use Rattle.ground.proofs.JudgementLaws.{orElse-zero, refuse-no, pos-of, turns-all, turns-clear}
 use Rattle.endian.specs.Numbers.{u16At}
 use Rattle.minutes.specs.Minutes.{E}
+use Rattle.table.specs.Table.{Row}
 use Rattle.table.specs.TableBytes.{cycleOf, usersOf, permissionsOf, rolesOf, derivedOf, rowsOf, entryOf, rowOf}
 use Rattle.table.specs.TableRefusals.{headerJudged, sourceBefore, entryBad, entryJudged, rowBad, followsBefore, rowJudged, tableJudged}
 
@@ -34,12 +35,31 @@ pub record EntryFine (s : List ℕ) (d : ℕ) : Type 0 where
   pub users-below : entryOf s d .users < 2 ^ usersOf s
   pub permissions-below : entryOf s d .permissions < 2 ^ permissionsOf s
 
+-- a row that is not refused by itself
+pub record RowAlone (D C : ℕ) (x : Row) : Type 0 where
+  pub derived : x .derived < D
+  pub ordered : x .window .begin < x .window .end
+  pub ends : x .window .end ≤ E
+  pub some-length : 0 < x .window .length
+  pub in-cycle : x .window .offset + x .window .length ≤ C
+
+pub row-alone : (D C : ℕ) (x : Row) → rowBad D C x ≡ false → RowAlone D C x
+unfolding rowBad
+row-alone D C x h =
+    let h1 = or-no _ _ h in
+    let h2 = or-no _ _ (h1 .0) in
+    let h3 = or-no _ _ (h2 .0) in
+    let h4 = or-no _ _ (h3 .0) in
+    record {
+      derived = leb-false _ _ (h4 .0);
+      ordered = leb-false _ _ (h4 .1);
+      ends = ltb-false _ _ (h3 .1);
+      some-length = pos-of _ (h2 .1);
+      in-cycle = ltb-false _ _ (h1 .1);
+    }
+
 pub record RowFine (s : List ℕ) (i : ℕ) : Type 0 where
-  pub derived : rowOf s i .derived < derivedOf s
-  pub ordered : rowOf s i .window .begin < rowOf s i .window .end
-  pub ends : rowOf s i .window .end ≤ E
-  pub some-length : 0 < rowOf s i .window .length
-  pub in-cycle : rowOf s i .window .offset + rowOf s i .window .length ≤ cycleOf s
+  pub alone : RowAlone (derivedOf s) (cycleOf s) (rowOf s i)
   pub follows : followsBefore s i ≡ true
 
 pub record TableFine (s : List ℕ) : Type 0 where
@@ -48,7 +68,7 @@ pub record TableFine (s : List ℕ) : Type 0 where
   pub rows : (i : ℕ) → i < rowsOf s → RowFine s i
 
 module _ (s : List ℕ) where
-  header-fine : headerJudged s ≡ 0 → HeaderFine s
+  pub header-fine : headerJudged s ≡ 0 → HeaderFine s
   unfolding headerJudged
   header-fine h =
       let h1 = orElse-zero (refuse 21 (ltb (length s) 16)) _ h in
@@ -112,31 +132,21 @@ module _ (s : List ℕ) where
       )
 
   row-fine : (i : ℕ) → rowJudged s i ≡ 0 → RowFine s i
-  unfolding rowJudged rowBad
+  unfolding rowJudged
   row-fine i h =
       let h1 = orElse-zero _ _ h in
-      let c = or-no _ _ (refuse-no _ _ (h1 .0)) in
-      let l = or-no _ _ (c .0) in
-      let e = or-no _ _ (l .0) in
-      let o = or-no _ _ (e .0) in
-      record {
-        derived = leb-false _ _ (o .0);
-        ordered = leb-false _ _ (o .1);
-        ends = ltb-false _ _ (e .1);
-        some-length = pos-of _ (l .1);
-        in-cycle = ltb-false _ _ (c .1);
-        follows = not-false _ (refuse-no _ _ (h1 .1));
-      }
+      record { alone = row-alone _ _ _ (refuse-no _ _ (h1 .0)); follows = not-false _ (refuse-no _ _ (h1 .1)) }
 
   row-clear : (i : ℕ) → RowFine s i → rowJudged s i ≡ 0
   unfolding rowJudged rowBad refuse _orElse_
   row-clear i f =
+      let a = f .alone in
       simp (
-        lt-leb _ _ (f .derived),
-        lt-leb _ _ (f .ordered),
-        le-ltb _ _ (f .ends),
-        ne-eqb (rowOf s i .window .length) 0 (λ z. omega (arith, f .some-length)),
-        le-ltb _ _ (f .in-cycle),
+        lt-leb _ _ (a .derived),
+        lt-leb _ _ (a .ordered),
+        le-ltb _ _ (a .ends),
+        ne-eqb (rowOf s i .window .length) 0 (λ z. omega (arith, a .some-length)),
+        le-ltb _ _ (a .in-cycle),
         f .follows,
       )
 

@@ -4,14 +4,12 @@ use Prim.Native.Nat.{ℕ, _+_, _*_, _≤_, _<_}
 use mathlib.Core.Path.{_≡_, ap}
 use mathlib.Core.List.{List}
 use native.Mathlib.Omega.{arith}
-use borrow.Author.Tests.{ltb-false, eqb-true, not-false}
 use lib.ListN.{length}
-use lib.Dec.{ltb}
 use Rattle.ground.specs.Judgement.{refuse, _orElse_}
 use Rattle.ground.specs.Outcome.{refused, given, outcome}
-use Rattle.ground.proofs.BoolLaws.{or-no}
-use Rattle.ground.proofs.JudgementLaws.{tests, orElse-zero, refuse-no, pos-of}
+use Rattle.ground.proofs.JudgementLaws.{tests}
 use Rattle.endian.specs.Numbers.{u16At}
+use Rattle.table.proofs.FineLaws.{header-fine}
 use Rattle.table.specs.TableBytes.{cycleOf, usersOf, permissionsOf, rolesOf, derivedOf, rowsOf}
 use Rattle.table.specs.TableRefusals.{headerJudged}
 use Rattle.table.specs.Answers.{countsOf, headerOutcome, Headed}
@@ -81,38 +79,7 @@ module _ (s : List ℕ) where
                 unfolding headerOutcome outcome headerJudged refuse _orElse_
                 header-passes h = search (tests)
 
-pub record HeaderFine (s : List ℕ) : Type 0 where
-  pub long : 16 ≤ length s
-  pub format : u16At s 0 ≡ 2
-  pub cycle-some : 0 < cycleOf s
-  pub cycle-most : cycleOf s ≤ 40320
-  pub users-most : usersOf s ≤ 64
-  pub permissions-most : permissionsOf s ≤ 64
-  pub roles-most : rolesOf s ≤ 32
-  pub whole : length s ≡ 16 + 17 * derivedOf s + 16 * rowsOf s
-
-pub header-fine : (s : List ℕ) → headerJudged s ≡ 0 → HeaderFine s
-unfolding headerJudged
-header-fine s h =
-    let h1 = orElse-zero (refuse 21 (ltb (length s) 16)) _ h in
-    let h2 = orElse-zero _ _ (h1 .1) in
-    let h3 = orElse-zero _ _ (h2 .1) in
-    let h4 = orElse-zero _ _ (h3 .1) in
-    let r3 = or-no _ _ (refuse-no _ _ (h3 .0)) in
-    let r4 = or-no _ _ (refuse-no _ _ (h4 .0)) in
-    let p4 = or-no _ _ (r4 .0) in
-    record {
-      long = ltb-false _ _ (refuse-no _ _ (h1 .0));
-      format = eqb-true _ _ (not-false _ (refuse-no _ _ (h2 .0)));
-      cycle-some = pos-of _ (r3 .0);
-      cycle-most = ltb-false _ _ (r3 .1);
-      users-most = ltb-false _ _ (p4 .0);
-      permissions-most = ltb-false _ _ (p4 .1);
-      roles-most = ltb-false _ _ (r4 .1);
-      whole = eqb-true _ _ (not-false _ (refuse-no _ _ (h4 .1)));
-    }
-
--- the same of the counts that were read
+-- what is known of a header that is accepted, of the counts that were read
 pub record Laid (s : List ℕ) (n : Counts) : Type 0 where
   pub cycle-some : 0 < n .cycle
   pub users-most : n .users ≤ 64

@@ -26,7 +26,7 @@ use Rattle.table.specs.TableRefusals.{sourceOf}
 use Rattle.table.specs.Answers.{Opened, rowUsers}
 use Rattle.table.specs.declared.Counts.{Counts}
 use Rattle.table.proofs.HeaderLaws.{counts-are}
-use Rattle.table.proofs.TableFine.{TableFine, table-fine}
+use Rattle.table.proofs.FineLaws.{TableFine, table-fine}
 use Rattle.table.proofs.AnswerLaws.{rowPlace, covering, owned, grant-parts, grant-of, grant-through, through-grant}
 
 yes-first : (o q : Option ℕ) → isYes (firstOf o q) ≡ (isYes o || isYes q)

@@ -1,7 +1,7 @@
 pub mod HeaderLaws
 pub mod EntryLaws
 pub mod RowLaws
-pub mod TableFine
+pub mod SourceLaws
 pub mod ReadLaws
 pub mod GrantLaws
 pub mod AnswerLaws

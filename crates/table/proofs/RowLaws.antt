@@ -8,12 +8,11 @@ use mathlib.Core.Bool.{Bool, true, false, not, or-true}
 use native.Mathlib.Numerals.{add-one}
 use native.Mathlib.Nat.{eq-or-lt-of-le}
 use native.Mathlib.Omega.{arith}
-use borrow.Author.Tests.{lt-ltb, le-leb, eq-eqb, leb-false, ltb-false}
+use borrow.Author.Tests.{lt-ltb, le-leb, eq-eqb}
 use Rattle.ground.specs.Judgement.{refuse, _orElse_, inTurn}
-use Rattle.ground.proofs.BoolLaws.{or-no}
-use Rattle.ground.proofs.JudgementLaws.{pos-of, turns-none, turns-more, turns-stop}
+use Rattle.ground.proofs.JudgementLaws.{turns-none, turns-more, turns-stop}
 use Rattle.endian.specs.Numbers.{u8At, u32At}
-use Rattle.minutes.specs.Minutes.{E, Window}
+use Rattle.minutes.specs.Minutes.{Window}
 use Rattle.table.specs.Table.{Row}
 use Rattle.table.specs.TableBytes.{cycleOf, derivedOf, rowAtByte, entryOf, rowOf}
 use Rattle.table.specs.TableRefusals.{rowBad, follows, sourceOf, followsBefore, rowJudged}
@@ -63,29 +62,6 @@ pub record RowsWalked (s : List ℕ) (n i r : ℕ) (v : Window) : Type 0 where
 pub rows-none : (s : List ℕ) (n : ℕ) → RowsWalked s n 0 0 noWindow
 unfolding roleBefore windowBefore
 rows-none s n = record { below = omega arith; clear = turns-none _; role = refl; window = refl }
-
--- a row that is not refused by itself
-pub record RowAlone (D C : ℕ) (x : Row) : Type 0 where
-  pub derived : x .derived < D
-  pub ordered : x .window .begin < x .window .end
-  pub ends : x .window .end ≤ E
-  pub some-length : 0 < x .window .length
-  pub in-cycle : x .window .offset + x .window .length ≤ C
-
-pub row-alone : (D C : ℕ) (x : Row) → rowBad D C x ≡ false → RowAlone D C x
-unfolding rowBad
-row-alone D C x h =
-    let h1 = or-no _ _ h in
-    let h2 = or-no _ _ (h1 .0) in
-    let h3 = or-no _ _ (h2 .0) in
-    let h4 = or-no _ _ (h3 .0) in
-    record {
-      derived = leb-false _ _ (h4 .0);
-      ordered = leb-false _ _ (h4 .1);
-      ends = ltb-false _ _ (h3 .1);
-      some-length = pos-of _ (h2 .1);
-      in-cycle = ltb-false _ _ (h1 .1);
-    }
 
 -- row i is x, and b is whether it is refused by itself
 module _ (s : List ℕ) (n : Counts) (i r : ℕ) (v : Window) (o : RowsWalked s (n .rows) i r v) (l : i < n .rows)

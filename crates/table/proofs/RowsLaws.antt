@@ -53,7 +53,7 @@ module _ (s : List ℕ) where
         ⊎-elim
         (λ (e : i ≡ j). rw e (row-next j m))
         (λ (k : i < j).
-        after-trans _ (rowOf s i .window) _ (rowOf s j .window) _ (rowOf s (suc j) .window) (le-of-lt (f .rows j (omega arith) .ordered))
+        after-trans _ (rowOf s i .window) _ (rowOf s j .window) _ (rowOf s (suc j) .window) (le-of-lt (f .rows j (omega arith) .alone .ordered))
         (rows-after i j k (omega arith)) (row-next j m))
         (eq-or-lt-of-le (le-of-suc-le-suc l))
 
@@ -81,5 +81,5 @@ module _ (s : List ℕ) where
           below = r .1;
           enables = e;
           covered = c .1;
-          of-source = sym (source-is (r .0) (f .rows (r .0) (r .1) .derived)) ∙ ap (λ (k : ℕ). entryAt (tableOf s) k .source) e;
+          of-source = sym (source-is (r .0) (f .rows (r .0) (r .1) .alone .derived)) ∙ ap (λ (k : ℕ). entryAt (tableOf s) k .source) e;
         }

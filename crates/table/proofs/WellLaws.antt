@@ -86,11 +86,11 @@ module _ (s : List ℕ) where
   unfolding tableOf
   row-well i f =
       record {
-        derived = rw entries-length (f .derived);
-        ordered = f .ordered;
-        ends = f .ends;
-        some-length = f .some-length;
-        in-cycle = f .in-cycle;
+        derived = rw entries-length (f .alone .derived);
+        ordered = f .alone .ordered;
+        ends = f .alone .ends;
+        some-length = f .alone .some-length;
+        in-cycle = f .alone .in-cycle;
       }
 
   names : (i : ℕ) → RowWell (tableOf s) (rowOf s i) → rowOf s i .derived < derivedOf s
@@ -100,11 +100,7 @@ module _ (s : List ℕ) where
   unfolding tableOf
   row-fine i g o =
       record {
-        derived = names i g;
-        ordered = g .ordered;
-        ends = g .ends;
-        some-length = g .some-length;
-        in-cycle = g .in-cycle;
+        alone = record { derived = names i g; ordered = g .ordered; ends = g .ends; some-length = g .some-length; in-cycle = g .in-cycle };
         follows = o;
       }
 
@@ -127,7 +123,7 @@ module _ (s : List ℕ) where
         ascending = ascending-listOf 0 (derivedOf s) (entryOf s) (λ l. omega arith) (λ d l. f .entries (suc d) l .ascending);
         rows = all-listOf (RowWell (tableOf s)) (rowsOf s) (rowOf s) (λ i l. row-well i (f .rows i l));
         in-order = in-order-listOf (tableOf s) (rowsOf s) (rowOf s)
-            (λ i l. follows-row i (suc i) (f .rows i (omega arith) .derived) (f .rows (suc i) l .derived) .0 (row-next s f i l));
+            (λ i l. follows-row i (suc i) (f .rows i (omega arith) .alone .derived) (f .rows (suc i) l .alone .derived) .0 (row-next s f i l));
       }
 
   module _ (g : TableWell (tableOf s)) where

@@ -1,4 +1,4 @@
--- What the answers of this crate's functions stand for.
+-- What reading a table answers; and, from `headerOutcome` on, what the steps inside promise each other, which no reader has to believe.
 use Prim.Native.Nat.{ℕ, _+_, _*_, _≤_}
 use mathlib.Core.Bool.{Bool, _&&_}
 use mathlib.Core.List.{List, _++_}

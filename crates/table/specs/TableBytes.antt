@@ -4,7 +4,6 @@ use mathlib.Core.List.{List, _++_}
 use lib.ListN.{length}
 use Rattle.ground.specs.Sequence.{listOf, joined}
 use Rattle.endian.specs.Numbers.{u8At, u16At, u32At, u64At, bytes8, bytes16, bytes32, bytes64}
-use Rattle.minutes.specs.Minutes.{Window}
 use Rattle.table.specs.Table.{Entry, Row, Table}
 
 -- the bytes that spell a table: header, entries, rows

@@ -5,7 +5,7 @@ use mathlib.Core.Logic.{_⊎_}
 use mathlib.Core.List.{List, [], _∷_}
 use lib.ListN.{length}
 use Rattle.ground.specs.Sequence.{All}
-use Rattle.minutes.specs.Minutes.{E, Window}
+use Rattle.minutes.specs.Minutes.{E}
 use Rattle.table.specs.Table.{Entry, Row, Table, entryAt}
 
 -- the sets are not empty and have no bit at or above U and P

@@ -3,11 +3,6 @@ use native.Mathlib.Omega.{arith}
 use borrow.Author.Needs.{needs}
 use Rattle.rota.proofs.answer_in.Statement.{statement}
 use Rattle.rota.proofs.answer_in.Tie as tie
-use Rattle.rota.proofs.answer_in.Reads as reads
-use Rattle.rota.proofs.answer_in.Lts as lts
-use Rattle.bitset.proofs.lowest.Reads as lowest-reads
-use Rattle.hours.proofs.holding_at.Reads as holding-at-reads
-use Rattle.rota.proofs.question_roles.Reads as question-roles-reads
 
 -- src/lib.rt:375:49
 cast-holding-at : tie.Need-cast-holding-at

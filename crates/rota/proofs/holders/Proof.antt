@@ -9,10 +9,6 @@ use mathlib.Core.Path.{sym, ap, _∙_}
 use borrow.Author.Needs.{needs}
 use Rattle.rota.proofs.holders.Statement.{statement}
 use Rattle.rota.proofs.holders.Tie as tie
-use Rattle.rota.proofs.holders.Reads as reads
-use Rattle.rota.proofs.holders.Lts as lts
-use Rattle.rota.proofs.holders_in.Reads as holders-in-reads
-use Rattle.rota.proofs.locate.Reads as locate-reads
 
 -- src/lib.rt:426:11
 locate-requires : tie.Need-locate-requires

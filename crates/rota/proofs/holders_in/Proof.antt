@@ -1,15 +1,7 @@
 use Rattle.rota.proofs.LocatedLaws.{counted, fine, records-fine, few-hours, some-cycle, roles-fine, permissions-fine, users-fine-all, holders-as}
-use native.Mathlib.Omega.{arith}
 use borrow.Author.Needs.{needs}
 use Rattle.rota.proofs.holders_in.Statement.{statement}
 use Rattle.rota.proofs.holders_in.Tie as tie
-use Rattle.rota.proofs.holders_in.Reads as reads
-use Rattle.rota.proofs.holders_in.Lts as lts
-use Rattle.bitset.proofs.both.Reads as both-reads
-use Rattle.hours.proofs.holding_at.Reads as holding-at-reads
-use Rattle.rota.proofs.roles_assigned.Reads as roles-assigned-reads
-use Rattle.rota.proofs.roles_enabled.Reads as roles-enabled-reads
-use Rattle.rota.proofs.users_with.Reads as users-with-reads
 
 -- src/lib.rt:390:13
 cast-h : tie.Need-cast-h

@@ -4,16 +4,10 @@ use Rattle.rota.specs.Answers.{layoutGiven}
 use Rattle.rota.specs.RotaBytes.{rotaOf}
 use Rattle.rota.specs.Rota.{policyOf}
 use Rattle.policy.proofs.QuestionOutcome.{bytes-refused, numbers-refused, question-given, minute-early}
-use Rattle.policy.specs.Policy.{argumentsJudged}
 use mathlib.Core.Path.{sym, ap, _∙_}
 use borrow.Author.Needs.{needs}
 use Rattle.rota.proofs.question.Statement.{statement}
 use Rattle.rota.proofs.question.Tie as tie
-use Rattle.rota.proofs.question.Reads as reads
-use Rattle.rota.proofs.question.Lts as lts
-use Rattle.policy.proofs.judge_arguments.Reads as judge-arguments-reads
-use Rattle.rota.proofs.answer_in.Reads as answer-in-reads
-use Rattle.rota.proofs.locate.Reads as locate-reads
 
 -- src/lib.rt:409:11
 locate-requires : tie.Need-locate-requires

@@ -1,13 +1,7 @@
 use Rattle.rota.proofs.LocatedLaws.{counted, fine, few-hours, roles-fine, users-fine, permissions-fine, question-as}
-use native.Mathlib.Omega.{arith}
 use borrow.Author.Needs.{needs}
 use Rattle.rota.proofs.question_roles.Statement.{statement}
 use Rattle.rota.proofs.question_roles.Tie as tie
-use Rattle.rota.proofs.question_roles.Reads as reads
-use Rattle.rota.proofs.question_roles.Lts as lts
-use Rattle.bitset.proofs.both.Reads as both-reads
-use Rattle.rota.proofs.roles_enabled.Reads as roles-enabled-reads
-use Rattle.rota.proofs.roles_of.Reads as roles-of-reads
 
 -- src/lib.rt:346:13
 cast-h : tie.Need-cast-h

@@ -3,22 +3,14 @@ use Rattle.rota.proofs.GatherRows.{role-refers, role-tested}
 use Rattle.rota.specs.Answers.{rolesEnabled}
 use Rattle.rota.specs.RotaBytes.{roleRef}
 use Rattle.hours.specs.Answers.{refIn}
-use Rattle.hours.specs.Hours.{dangling, refOf}
-use Rattle.endian.specs.Numbers.{u8At}
 use Rattle.bitset.proofs.SetLaws.{setOf-none, turn-in, turn-out}
-use Rattle.bitset.specs.Sets.{setOf}
 use native.Mathlib.Nat.{le-antisymm}
 use native.Mathlib.Omega.{arith}
 use mathlib.Core.Logic.{⊎-elim}
-use mathlib.Core.Path.{_≡_, sym, ap, _∙_}
-use Prim.Native.Nat.{ℕ, _≤_, _-_, _+_}
+use mathlib.Core.Path.{_≡_, _∙_}
+use Prim.Native.Nat.{_≤_, _-_}
 use Rattle.rota.proofs.roles_enabled.Statement.{statement}
 use Rattle.rota.proofs.roles_enabled.Tie as tie
-use Rattle.rota.proofs.roles_enabled.Reads as reads
-use Rattle.rota.proofs.roles_enabled.Lts as lts
-use Rattle.bitset.proofs.with.Reads as with-reads
-use Rattle.hours.proofs.decode.Reads as decode-reads
-use Rattle.hours.proofs.ref_holds.Reads as ref-holds-reads
 
 abbrev Inv-loop : tie.InvT-loop
 Inv-loop s h set at n roles₀ k₀ roles k = (k ≤ n) × (roles ≡ rolesEnabled s set k)

@@ -6,15 +6,10 @@ use Rattle.bitset.proofs.GatherLaws.{gather-none, gather-in, gather-out}
 use native.Mathlib.Nat.{le-antisymm}
 use native.Mathlib.Omega.{arith}
 use mathlib.Core.Logic.{⊎-elim}
-use mathlib.Core.Path.{_≡_, refl, ap, _∙_}
-use Prim.Native.Nat.{_≤_, _-_, _+_, _*_}
+use mathlib.Core.Path.{_≡_, refl, _∙_}
+use Prim.Native.Nat.{_≤_, _-_}
 use Rattle.rota.proofs.roles_of.Statement.{statement}
 use Rattle.rota.proofs.roles_of.Tie as tie
-use Rattle.rota.proofs.roles_of.Reads as reads
-use Rattle.rota.proofs.roles_of.Lts as lts
-use Rattle.bitset.proofs.with.Reads as with-reads
-use Rattle.endian.proofs.read8.Reads as read8-reads
-use Rattle.rota.proofs.row_of.Reads as row-of-reads
 
 abbrev Inv-loop : tie.InvT-loop
 Inv-loop s h set at n top x roles₀ k₀ roles k = (k ≤ n) × (roles ≡ rolesOfNumber s set at k x)

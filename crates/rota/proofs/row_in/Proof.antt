@@ -1,14 +1,9 @@
 use Rattle.hours.specs.Answers.{refIn}
 use Rattle.hours.specs.Hours.{dangling}
-use mathlib.Core.Bool.{false}
-use mathlib.Core.Path.{ap, _∙_, sym, subst}
+use mathlib.Core.Path.{ap, _∙_}
 use borrow.Author.Needs.{needs}
 use Rattle.rota.proofs.row_in.Statement.{statement}
 use Rattle.rota.proofs.row_in.Tie as tie
-use Rattle.rota.proofs.row_in.Reads as reads
-use Rattle.rota.proofs.row_in.Lts as lts
-use Rattle.hours.proofs.decode.Reads as decode-reads
-use Rattle.hours.proofs.ref_holds.Reads as ref-holds-reads
 
 -- src/lib.rt:242:31
 add-decode : tie.Need-add-decode

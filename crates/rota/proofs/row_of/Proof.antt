@@ -1,13 +1,8 @@
 use mathlib.Core.Path.{sym, _∙_}
 use borrow.Author.Tests.{eq-eqb, ne-eqb}
-use Rattle.ground.proofs.JudgementLaws.{tests}
 use borrow.Author.Needs.{needs}
 use Rattle.rota.proofs.row_of.Statement.{statement}
 use Rattle.rota.proofs.row_of.Tie as tie
-use Rattle.rota.proofs.row_of.Reads as reads
-use Rattle.rota.proofs.row_of.Lts as lts
-use Rattle.endian.proofs.read8.Reads as read8-reads
-use Rattle.rota.proofs.row_in.Reads as row-in-reads
 
 -- src/lib.rt:252:8
 read8-requires : tie.Need-read8-requires

@@ -1,19 +1,8 @@
 use mathlib.Core.Bool.{false}
 use Rattle.rota.proofs.GatherRows.{with-yes, with-no}
-use Rattle.hours.specs.Answers.{refIn}
-use Rattle.bitset.specs.Sets.{has}
-use Prim.Native.Nat.{ℕ}
-use mathlib.Core.Bool.{Bool, _&&_}
-use native.Mathlib.Omega.{arith}
-use mathlib.Core.Path.{sym, _∙_, ap, ap₂}
 use borrow.Author.Needs.{needs}
 use Rattle.rota.proofs.row_with.Statement.{statement}
 use Rattle.rota.proofs.row_with.Tie as tie
-use Rattle.rota.proofs.row_with.Reads as reads
-use Rattle.rota.proofs.row_with.Lts as lts
-use Rattle.bitset.proofs.contains.Reads as contains-reads
-use Rattle.endian.proofs.read8.Reads as read8-reads
-use Rattle.rota.proofs.row_in.Reads as row-in-reads
 
 -- src/lib.rt:264:49
 add-read8 : tie.Need-add-read8

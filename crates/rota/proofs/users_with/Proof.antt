@@ -1,20 +1,15 @@
 use borrow.Author.Needs.{needs}
-use Rattle.rota.proofs.GatherRows.{withRole, roleAt, numberAt, row-within, row-refers}
-use Rattle.rota.specs.Answers.{usersWith, rowIn}
-use Rattle.rota.specs.RotaBytes.{rolesOf, usersOf}
+use Rattle.rota.proofs.GatherRows.{withRole, numberAt, row-within, row-refers}
+use Rattle.rota.specs.Answers.{usersWith}
+use Rattle.rota.specs.RotaBytes.{usersOf}
 use Rattle.bitset.proofs.GatherLaws.{gather-none, gather-in, gather-out}
 use native.Mathlib.Nat.{le-antisymm}
 use native.Mathlib.Omega.{arith}
 use mathlib.Core.Logic.{⊎-elim}
-use mathlib.Core.Path.{_≡_, refl, ap, _∙_}
-use Prim.Native.Nat.{_≤_, _-_, _+_, _*_}
+use mathlib.Core.Path.{_≡_, refl, _∙_}
+use Prim.Native.Nat.{_≤_, _-_}
 use Rattle.rota.proofs.users_with.Statement.{statement}
 use Rattle.rota.proofs.users_with.Tie as tie
-use Rattle.rota.proofs.users_with.Reads as reads
-use Rattle.rota.proofs.users_with.Lts as lts
-use Rattle.bitset.proofs.with.Reads as with-reads
-use Rattle.endian.proofs.read8.Reads as read8-reads
-use Rattle.rota.proofs.row_with.Reads as row-with-reads
 
 abbrev Inv-loop : tie.InvT-loop
 Inv-loop s h set roles at n users₀ k₀ users k = (k ≤ n) × (users ≡ usersWith s set roles at k)

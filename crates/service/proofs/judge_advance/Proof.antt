@@ -1,5 +1,5 @@
 use Rattle.service.proofs.CoreLaws.{first, onward}
-use Rattle.service.specs.Core.{advanceBy}
+use Rattle.service.specs.Machine.{advanceJudged}
 use Rattle.ground.proofs.JudgementLaws.{tests}
 use Rattle.ground.specs.Judgement.{refuse, _orElse_}
 use Rattle.minutes.specs.Minutes.{E}
@@ -14,15 +14,15 @@ returns : tie.Need-returns
 returns c = first _ _ _ (c .before .judge-state .ensures) (c .if1 .taken)
 
 returns-2 : tie.Need-returns-2
-unfolding advanceBy refuse _orElse_ E
+unfolding advanceJudged refuse _orElse_ E
 returns-2 c = onward _ _ _ _ (c .before .before .judge-state .ensures) (c .before .if1 .left) (search (tests))
 
 returns-3 : tie.Need-returns-3
-unfolding advanceBy refuse _orElse_ E
+unfolding advanceJudged refuse _orElse_ E
 returns-3 c = onward _ _ _ _ (c .before .before .before .before .judge-state .ensures) (c .before .before .before .if1 .left) (search (tests))
 
 returns-4 : tie.Need-returns-4
-unfolding advanceBy refuse _orElse_ E
+unfolding advanceJudged refuse _orElse_ E
 returns-4 c = onward _ _ _ _ (c .before .before .before .before .judge-state .ensures) (c .before .before .before .if1 .left) (search (tests))
 
 pub judge-advance-spec : {M : Type 1} → statement M

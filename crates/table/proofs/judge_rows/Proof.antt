@@ -4,7 +4,8 @@ use native.Mathlib.Nat.{le-antisymm}
 use native.Mathlib.Omega.{arith}
 use borrow.Author.Needs.{needs}
 use Rattle.table.specs.Answers.{windowGiven}
-use Rattle.table.proofs.RowLaws.{RowsWalked, rows-none, row-read, row-alone, row-bad, row-astray, row-next}
+use Rattle.table.proofs.FineLaws.{row-alone}
+use Rattle.table.proofs.RowLaws.{RowsWalked, rows-none, row-read, row-bad, row-astray, row-next}
 use Rattle.table.proofs.HeaderLaws.{laid}
 use Rattle.table.proofs.judge_rows.Statement.{statement}
 use Rattle.table.proofs.judge_rows.Tie as tie
