@@ -1,8 +1,9 @@
 //! The inputs: the small rota, a week as an organization has it, and the largest.
 
-use comparison::generate::{Sets, fine_rota, rota_minute, weekly_rota};
-use comparison::random::Random;
-use comparison::{data, ffi};
+use cases::data;
+use cases::generate::{Sets, fine_rota, rota_minute, weekly_rota};
+use cases::random::Random;
+use comparison::ffi;
 use reference::rota::Rota;
 use reference::set;
 use reference::{END, rewriting};

@@ -4,9 +4,9 @@
 
 use std::time::Instant;
 
-use comparison::case::{Case, Tally};
+use cases::case::{Case, Tally};
+use cases::generate::{Edges, call, weekly_rota};
 use comparison::ffi::service::{on_rota, on_table};
-use comparison::generate::{Edges, call, weekly_rota};
 use comparison::{expected, ffi};
 use reference::END;
 use reference::calendar;

@@ -1,6 +1,6 @@
 //! The calendar: every day both ways, and every date or time that does not exist.
 
-use comparison::case::{Case, cases};
+use cases::case::{Case, cases};
 use comparison::{expected, ffi};
 use reference::END;
 

@@ -1,8 +1,9 @@
 //! Hours records: judged at any place in any bytes, and asked at the minutes where they change.
 
-use comparison::case::{Case, Tally, cases};
-use comparison::random::Random;
-use comparison::{expected, ffi, generate};
+use cases::case::{Case, Tally, cases};
+use cases::generate;
+use cases::random::Random;
+use comparison::{expected, ffi};
 use reference::END;
 use reference::hours::{Hours, Pair};
 

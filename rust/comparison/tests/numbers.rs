@@ -1,7 +1,7 @@
 //! Numbers in bytes, low byte first: read and written at every place, within and outside.
 
-use comparison::case::{Case, cases};
-use comparison::random::Random;
+use cases::case::{Case, cases};
+use cases::random::Random;
 use comparison::{expected, ffi};
 
 const WIDTHS: [u32; 12] = [2, 4, 8, 0, 1, 3, 5, 6, 7, 9, 16, u32::MAX];

@@ -2,10 +2,11 @@
 
 use std::time::Instant;
 
-use comparison::case::{Case, Tally, cases, print};
+use cases::case::{Case, Tally, cases, print};
+use cases::generate::{Sets, fine_rota};
+use cases::{data, generate};
 use comparison::expected::rewriting::{Whole, whole};
-use comparison::generate::{Sets, fine_rota};
-use comparison::{data, expected, ffi, generate};
+use comparison::{expected, ffi};
 use reference::hours::{Hours, HoursRef};
 use reference::rota::{Rota, Row};
 use reference::table::Table;

@@ -1,7 +1,8 @@
 //! Rotas: read, asked, and asked who holds anything; well formed and damaged.
 
-use comparison::case::{Case, Tally, cases};
-use comparison::{data, expected, ffi, generate};
+use cases::case::{Case, Tally, cases};
+use cases::{data, generate};
+use comparison::{expected, ffi};
 use reference::hours::{Hours, HoursRef};
 use reference::rota::{Rota, Row};
 use reference::{END, Refusal};

@@ -1,10 +1,11 @@
 //! The service's calls on a rota and on its table, each against the plain machine on the rota:
 //! what a call gives and the state that it leaves.
 
-use comparison::case::{Case, Tally, cases};
+use cases::case::{Case, Tally, cases};
+use cases::generate::{Edges, Sizes};
+use cases::{data, generate};
 use comparison::ffi::service::{Stepped, on_rota, on_table};
-use comparison::generate::{Edges, Sizes};
-use comparison::{data, expected, ffi, generate};
+use comparison::{expected, ffi};
 use reference::policy::Policy;
 use reference::rota::Rota;
 use reference::service::{Call, State};

@@ -2,7 +2,7 @@
 
 use std::collections::BTreeSet;
 
-use comparison::case::{Case, cases};
+use cases::case::{Case, cases};
 use comparison::ffi;
 
 fn numbers(set: u64) -> BTreeSet<u32> {

@@ -1,7 +1,8 @@
 //! Tables: read, asked, and asked who holds anything; rewritten, made by hand and damaged.
 
-use comparison::case::{Case, Tally, cases};
-use comparison::{expected, ffi, generate};
+use cases::case::{Case, Tally, cases};
+use cases::{data, generate};
+use comparison::{expected, ffi};
 use reference::rewriting;
 use reference::table::{DerivedRole, Row, Table};
 use reference::{END, Refusal};
@@ -61,8 +62,7 @@ fn compare_all(case: &mut Case, tally: &mut Tally, lent: &Lent, table: &Table, q
 
 /// The small rota's table, as its file holds it.
 fn small() -> Table {
-    let path = concat!(env!("CARGO_MANIFEST_DIR"), "/../../data/small.table");
-    Table::parse(&std::fs::read(path).expect(path)).expect("well formed")
+    Table::parse(&data::small_table()).expect("well formed")
 }
 
 #[test]

@@ -7,7 +7,7 @@
 
 #![forbid(unsafe_code)]
 
-mod bytes;
+pub mod bytes;
 pub mod calendar;
 pub mod hours;
 pub mod listing;

@@ -41,6 +41,7 @@ pub struct Table {
 
 impl Row {
     /// offset + length, as a number that does not wrap.
+    #[inline]
     pub fn cell_end(&self) -> u32 {
         u32::from(self.offset) + u32::from(self.length)
     }

@@ -1,16 +1,9 @@
 //! Slow and obvious cross checks on random inputs: one part of the implementation against another.
 
-// The builders of random inputs are those of the comparison tests.
-#[path = "../../comparison/src/generate/mod.rs"]
-#[allow(dead_code, unused_imports)]
-mod generate;
-#[path = "../../comparison/src/random.rs"]
-#[allow(dead_code, unused_imports)]
-mod random;
-
 use std::collections::{BTreeMap, BTreeSet, HashSet};
 
-use random::Random;
+use cases::generate;
+use cases::random::Random;
 use reference::END;
 use reference::policy::Policy;
 use reference::rewriting;

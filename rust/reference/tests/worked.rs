@@ -1,5 +1,6 @@
 //! The worked examples: the small rota, its table and listing, and the limits.
 
+use cases::data;
 use reference::END;
 use reference::hours::{Hours, HoursRef, Pair};
 use reference::listing;
@@ -8,11 +9,6 @@ use reference::rewriting::{self, rewrite};
 use reference::rota::{Rota, Row};
 use reference::service::{Call, Lent, Reply, State, serve};
 use reference::table::Table;
-
-fn data(name: &str) -> Vec<u8> {
-    let path = concat!(env!("CARGO_MANIFEST_DIR"), "/../../data/").to_string() + name;
-    std::fs::read(&path).unwrap_or_else(|error| panic!("{path}: {error}"))
-}
 
 /// S, as the text describes it.
 fn small() -> Rota {
@@ -32,25 +28,25 @@ fn small() -> Rota {
 
 #[test]
 fn small_rota_reads_and_encodes() {
-    assert_eq!(data("small.rota").len(), 54);
-    assert_eq!(small().encode(), data("small.rota"));
-    assert_eq!(Rota::parse(&data("small.rota")), Ok(small()));
+    assert_eq!(data::small_rota().len(), 54);
+    assert_eq!(small().encode(), data::small_rota());
+    assert_eq!(Rota::parse(&data::small_rota()), Ok(small()));
 }
 
 #[test]
 fn small_rota_rewrites_to_its_table() {
     let table = rewriting::table(&small());
-    assert_eq!(table.encode(), data("small.table"));
-    assert_eq!(Table::parse(&data("small.table")), Ok(table));
+    assert_eq!(table.encode(), data::small_table());
+    assert_eq!(Table::parse(&data::small_table()), Ok(table));
 }
 
 #[test]
 fn small_rota_needs_259_bytes() {
-    let rota = data("small.rota");
+    let rota = data::small_rota();
     let mut area = vec![0xa5; 300];
     let written = rewrite(&rota, &mut area).unwrap();
     assert_eq!((written.derived, written.rows, written.length), (3, 12, 259));
-    assert_eq!(area[..259], data("small.table"));
+    assert_eq!(area[..259], data::small_table());
     assert!(area[259..].iter().all(|&byte| byte == 0xa5), "bytes past the length stay");
 
     assert!(rewrite(&rota, &mut [0; 259]).is_ok());
@@ -63,8 +59,8 @@ fn small_rota_needs_259_bytes() {
 
 #[test]
 fn small_listing() {
-    let printed = listing::program(&data("small.rota"));
-    assert_eq!(printed.as_bytes(), data("small.listing"));
+    let printed = listing::program(&data::small_rota());
+    assert_eq!(printed.as_bytes(), data::small_listing());
 }
 
 #[test]
@@ -110,7 +106,7 @@ fn worked_minutes() {
 
 #[test]
 fn worked_calls() {
-    let (rota, table) = (data("small.rota"), data("small.table"));
+    let (rota, table) = (data::small_rota(), data::small_table());
     for lent in [Lent::Rota(&rota), Lent::Table(&table)] {
         let mut state = State::default();
         let mut call = |call| serve(lent, &mut state, call);

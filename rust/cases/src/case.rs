@@ -37,19 +37,13 @@ impl Case {
         Case { name, seed, number, random }
     }
 
-    /// Compares what the proved code gave with what the reference gives.
+    /// Compares what the code under test gave with what the reference gives.
     /// A difference is printed with the arguments and the bytes.
     #[track_caller]
-    pub fn same<T: PartialEq + Debug>(
-        &self,
-        proved: T,
-        expected: T,
-        bytes: &[u8],
-        what: impl Debug,
-    ) {
-        if proved != expected {
+    pub fn same<T: PartialEq + Debug>(&self, gave: T, expected: T, bytes: &[u8], what: impl Debug) {
+        if gave != expected {
             panic!(
-                "{} differs: seed {} case {}\n  proved   {proved:?}\n  expected {expected:?}\n  \
+                "{} differs: seed {} case {}\n  gave     {gave:?}\n  expected {expected:?}\n  \
                  given    {what:?}\n  bytes    {} ({} bytes)",
                 self.name,
                 self.seed,

@@ -1,4 +1,4 @@
-//! The small rota and its table, as their files hold them.
+//! The small rota, its table and its listing, as their files hold them.
 
 fn file(name: &str) -> Vec<u8> {
     let path = concat!(env!("CARGO_MANIFEST_DIR"), "/../../data/").to_string() + name;
@@ -11,4 +11,8 @@ pub fn small_rota() -> Vec<u8> {
 
 pub fn small_table() -> Vec<u8> {
     file("small.table")
+}
+
+pub fn small_listing() -> Vec<u8> {
+    file("small.listing")
 }

@@ -1,0 +1,9 @@
+//! Inputs for the tests: `generate` builds them from the numbers of `random`, `data` reads those
+//! of the files, and `case` runs them so that a failing one can be repeated.
+
+#![forbid(unsafe_code)]
+
+pub mod case;
+pub mod data;
+pub mod generate;
+pub mod random;

@@ -1,0 +1,196 @@
+//! Rotas in their bytes.
+
+use reference::bytes::{u16_at, u32_at};
+use reference::policy::Policy;
+use reference::{CYCLE_LIMIT, END, Refusal};
+
+use crate::ensure;
+
+/// Most pairs of all records together.
+const PAIR_LIMIT: usize = 256;
+
+/// The hours that hold: bit h for the record h, and bit 63 for always. A reference is below 32
+/// or 255, so its low six bits find the right one.
+pub type Held = u64;
+pub const ALWAYS: Held = 1 << 63;
+
+/// Whether the hours that a byte refers to hold.
+#[inline]
+pub fn holds(held: Held, reference: u8) -> bool {
+    held >> (reference & 63) & 1 != 0
+}
+
+/// A user or a permission, a role, an hours reference.
+pub type Row = [u8; 3];
+
+#[inline]
+fn offset(pair: &[u8; 4]) -> u32 {
+    u16_at(pair, 0).into()
+}
+
+/// offset + length.
+#[inline]
+fn end(pair: &[u8; 4]) -> u32 {
+    offset(pair) + u32::from(u16_at(pair, 2))
+}
+
+/// An hours record in its bytes.
+pub struct Record<'a> {
+    pub begin: u32,
+    pub end: u32,
+    pairs: &'a [[u8; 4]],
+}
+
+impl<'a> Record<'a> {
+    /// Takes the record at the front of `bytes`, and judges it; at most `room` pairs are left.
+    fn judge(bytes: &mut &'a [u8], cycle: u32, room: usize) -> Result<Record<'a>, Refusal> {
+        let (head, rest) = bytes.split_first_chunk::<10>().ok_or(5u32)?;
+        let (begin, finish) = (u32_at(head, 0), u32_at(head, 4));
+        let count = usize::from(u16_at(head, 8));
+        ensure(begin < finish && finish <= END, 6)?;
+        ensure(0 < count && count <= room, 7)?;
+        let (pairs, rest) = rest.split_at_checked(4 * count).ok_or(5u32)?;
+        let (pairs, _) = pairs.as_chunks();
+        let mut least = 0;
+        for pair in pairs {
+            let (first, past) = (offset(pair), end(pair));
+            ensure(least <= first && first < past && past <= cycle, 8)?;
+            // The next pair starts later than this one's end.
+            least = past + 1;
+        }
+        *bytes = rest;
+        Ok(Record { begin, end: finish, pairs })
+    }
+
+    fn holds(&self, t: u32, phase: u32) -> bool {
+        if t < self.begin || self.end <= t {
+            return false;
+        }
+        let after = self.pairs.partition_point(|pair| offset(pair) <= phase);
+        after > 0 && phase < end(&self.pairs[after - 1])
+    }
+
+    /// Each pair's offset and offset + length.
+    pub fn pairs(&self) -> impl Iterator<Item = (u32, u32)> {
+        self.pairs.iter().map(|pair| (offset(pair), end(pair)))
+    }
+}
+
+pub struct Rota<'a> {
+    pub cycle: u32,
+    pub hours: u8,
+    pub users: u8,
+    pub permissions: u8,
+    /// The bytes of all hours records.
+    records: &'a [u8],
+    /// For each role its hours reference.
+    pub roles: &'a [u8],
+    pub user_rows: &'a [Row],
+    pub permission_rows: &'a [Row],
+}
+
+impl<'a> Rota<'a> {
+    pub fn read(bytes: &'a [u8]) -> Result<Rota<'a>, Refusal> {
+        let (head, body) = bytes.split_first_chunk::<12>().ok_or(1u32)?;
+        ensure(u16_at(head, 0) == 1, 2)?;
+        let cycle = u16_at(head, 2);
+        ensure(0 < cycle && cycle <= CYCLE_LIMIT, 3)?;
+        let &[_, _, _, _, hours, users, permissions, roles, ..] = head;
+        let (user_rows, permission_rows) = (u16_at(head, 8), u16_at(head, 10));
+        let few = hours <= 32 && users <= 64 && permissions <= 64 && roles <= 32;
+        ensure(few && user_rows <= 512 && permission_rows <= 512, 4)?;
+
+        let cycle = cycle.into();
+        let (mut rest, mut room) = (body, PAIR_LIMIT);
+        for _ in 0..hours {
+            room -= Record::judge(&mut rest, cycle, room)?.pairs.len();
+        }
+        let records = &body[..body.len() - rest.len()];
+
+        let row_bytes = 3 * (usize::from(user_rows) + usize::from(permission_rows));
+        ensure(rest.len() == usize::from(roles) + row_bytes, 9)?;
+        let (role_hours, rows) = rest.split_at(roles.into());
+        // 255 becomes 0, and no other number that is out of range passes.
+        let known = |reference: u8| reference.wrapping_add(1) <= hours;
+        ensure(role_hours.iter().all(|&reference| known(reference)), 10)?;
+        let (rows, _) = rows.as_chunks();
+        let (user_rows, permission_rows) = rows.split_at(user_rows.into());
+        // Without an early end, which a rota that is accepted never takes.
+        let fit = |rows: &[Row], numbers: u8| {
+            rows.iter().fold(true, |fit, &[number, role, reference]| {
+                fit & (number < numbers) & (role < roles) & known(reference)
+            })
+        };
+        ensure(fit(user_rows, users), 11)?;
+        ensure(fit(permission_rows, permissions), 12)?;
+        let roles = role_hours;
+        Ok(Rota { cycle, hours, users, permissions, records, roles, user_rows, permission_rows })
+    }
+
+    /// The hours records, which were judged before.
+    pub fn records(&self) -> impl Iterator<Item = Record<'a>> {
+        let mut rest = self.records;
+        std::iter::from_fn(move || {
+            let (head, body) = rest.split_first_chunk::<10>()?;
+            let (pairs, after) = body.split_at(4 * usize::from(u16_at(head, 8)));
+            rest = after;
+            let (pairs, _) = pairs.as_chunks();
+            Some(Record { begin: u32_at(head, 0), end: u32_at(head, 4), pairs })
+        })
+    }
+
+    fn held(&self, t: u32) -> Held {
+        let phase = t % self.cycle;
+        (0..).zip(self.records()).fold(ALWAYS, |held, (number, record)| {
+            held | Held::from(record.holds(t, phase)) << number
+        })
+    }
+
+    /// The set of roles that are enabled.
+    fn enabled(&self, held: Held) -> u32 {
+        (0..).zip(self.roles).fold(0, |roles, (role, &hours)| {
+            roles | u32::from(holds(held, hours)) << role //
+        })
+    }
+}
+
+/// The set of roles of the rows that hold and are `wanted`.
+fn roles_of(rows: &[Row], held: Held, wanted: impl Fn(u8) -> bool) -> u32 {
+    rows.iter().fold(0, |roles, &[number, role, hours]| {
+        roles | u32::from(wanted(number) & holds(held, hours)) << role
+    })
+}
+
+impl Policy for Rota<'_> {
+    fn users(&self) -> u32 {
+        self.users.into()
+    }
+
+    fn permissions(&self) -> u32 {
+        self.permissions.into()
+    }
+
+    fn answer(&self, user: u32, permission: u32, t: u32) -> Option<u8> {
+        let held = self.held(t);
+        let mut roles = self.enabled(held);
+        for (rows, asked) in [(self.user_rows, user), (self.permission_rows, permission)] {
+            roles &= roles_of(rows, held, |number| u32::from(number) == asked);
+            if roles == 0 {
+                return None;
+            }
+        }
+        Some(roles.trailing_zeros() as u8)
+    }
+
+    fn holders(&self, t: u32) -> u64 {
+        let held = self.held(t);
+        let granting = self.enabled(held) & roles_of(self.permission_rows, held, |_| true);
+        if granting == 0 {
+            return 0;
+        }
+        self.user_rows.iter().fold(0, |users, &[user, role, hours]| {
+            let grants = granting >> role & 1 != 0;
+            users | u64::from(grants & holds(held, hours)) << user
+        })
+    }
+}

@@ -1,0 +1,184 @@
+//! Tables in their bytes.
+
+use reference::bytes::{u16_at, u32_at, u64_at};
+use reference::policy::Policy;
+use reference::set::{below, has};
+use reference::table::Row;
+use reference::{CYCLE_LIMIT, END, Refusal};
+
+use crate::ensure;
+use crate::rota::Rota;
+
+pub const HEADER_SIZE: usize = 16;
+
+/// Source role, users, permissions.
+pub type Entry = [u8; 17];
+
+/// Derived role, begin, end, offset, length.
+pub type RowBytes = [u8; 16];
+
+#[inline]
+fn decode(row: &RowBytes) -> Row {
+    Row {
+        derived: u32_at(row, 0),
+        begin: u32_at(row, 4),
+        end: u32_at(row, 8),
+        offset: u16_at(row, 12),
+        length: u16_at(row, 14),
+    }
+}
+
+#[inline]
+pub fn encode(row: &Row) -> RowBytes {
+    let mut bytes = [0; size_of::<RowBytes>()];
+    bytes[..4].copy_from_slice(&row.derived.to_le_bytes());
+    bytes[4..8].copy_from_slice(&row.begin.to_le_bytes());
+    bytes[8..12].copy_from_slice(&row.end.to_le_bytes());
+    bytes[12..14].copy_from_slice(&row.offset.to_le_bytes());
+    bytes[14..].copy_from_slice(&row.length.to_le_bytes());
+    bytes
+}
+
+/// Whether a row may follow one of the same source.
+#[inline]
+fn follows(row: &Row, before: &Row) -> bool {
+    let same_era = row.begin == before.begin && row.end == before.end;
+    before.end <= row.begin || (same_era && before.cell_end() <= row.offset.into())
+}
+
+/// Bytes of a table with that many derived roles and rows.
+pub fn size(derived: u64, rows: u64) -> u64 {
+    HEADER_SIZE as u64 + derived * size_of::<Entry>() as u64 + rows * size_of::<RowBytes>() as u64
+}
+
+/// The header of a rota's table.
+pub fn header(rota: &Rota, derived: u32, rows: u32) -> [u8; HEADER_SIZE] {
+    let mut head = [0; HEADER_SIZE];
+    head[..2].copy_from_slice(&2u16.to_le_bytes());
+    head[2..4].copy_from_slice(&(rota.cycle as u16).to_le_bytes());
+    [head[4], head[5], head[6]] = [rota.users, rota.permissions, rota.roles.len() as u8];
+    head[8..12].copy_from_slice(&derived.to_le_bytes());
+    head[12..].copy_from_slice(&rows.to_le_bytes());
+    head
+}
+
+pub fn entry(source: u8, users: u64, permissions: u64) -> Entry {
+    let mut entry = [0; size_of::<Entry>()];
+    entry[0] = source;
+    entry[1..9].copy_from_slice(&users.to_le_bytes());
+    entry[9..].copy_from_slice(&permissions.to_le_bytes());
+    entry
+}
+
+pub struct Table<'a> {
+    pub cycle: u32,
+    pub users: u8,
+    pub permissions: u8,
+    pub roles: u8,
+    pub entries: &'a [Entry],
+    pub rows: &'a [RowBytes],
+    /// Where the rows of each source begin; past the last source, where they end.
+    starts: [u32; 33],
+}
+
+impl<'a> Table<'a> {
+    pub fn read(bytes: &'a [u8]) -> Result<Table<'a>, Refusal> {
+        let (head, body) = bytes.split_first_chunk::<HEADER_SIZE>().ok_or(21u32)?;
+        ensure(u16_at(head, 0) == 2, 22)?;
+        let cycle = u16_at(head, 2);
+        ensure(0 < cycle && cycle <= CYCLE_LIMIT, 23)?;
+        let (users, permissions, roles) = (head[4], head[5], u16_at(head, 6));
+        ensure(users <= 64 && permissions <= 64 && roles <= 32, 24)?;
+        let (derived, rows) = (u32_at(head, 8), u32_at(head, 12));
+        ensure(bytes.len() as u64 == size(derived.into(), rows.into()), 25)?;
+        let (entries, rows) = body.split_at(derived as usize * size_of::<Entry>());
+        let ((entries, _), (rows, _)) = (entries.as_chunks(), rows.as_chunks());
+
+        let (cycle, roles) = (cycle.into(), roles as u8);
+        judge_entries(entries, roles, below(users.into()), below(permissions.into()))?;
+        let starts = judge_rows(rows, entries, cycle)?;
+        Ok(Table { cycle, users, permissions, roles, entries, rows, starts })
+    }
+
+    /// The entry of a source that is enabled at `t`. There is at most one: the rows of a source
+    /// are sorted and no two of them share a minute.
+    fn enabled(&self, source: u8, t: u32, phase: u32) -> Option<&'a Entry> {
+        let source = usize::from(source);
+        let rows = &self.rows[self.starts[source] as usize..self.starts[source + 1] as usize];
+        // Rows of earlier eras, and those of the era of `t` that do not start after the phase.
+        let after = rows.partition_point(|row| {
+            let row = decode(row);
+            row.end <= t || (row.begin <= t && u32::from(row.offset) <= phase)
+        });
+        let row = decode(rows[..after].last()?);
+        let enables = t < row.end && phase < row.cell_end();
+        enables.then(|| &self.entries[row.derived as usize])
+    }
+
+    /// The entries that are enabled at `t`, by source.
+    fn all_enabled(&self, t: u32) -> impl Iterator<Item = &'a Entry> {
+        let phase = t % self.cycle;
+        (0..self.roles).filter_map(move |source| self.enabled(source, t, phase))
+    }
+}
+
+fn judge_entries(
+    entries: &[Entry],
+    roles: u8,
+    all_users: u64,
+    all_permissions: u64,
+) -> Result<(), Refusal> {
+    let mut before = 0;
+    for entry in entries {
+        let (source, users, permissions) = (entry[0], u64_at(entry, 1), u64_at(entry, 9));
+        let sets = users != 0 && permissions != 0;
+        let known = users & !all_users == 0 && permissions & !all_permissions == 0;
+        ensure(before <= source && source < roles && sets && known, 26)?;
+        before = source;
+    }
+    Ok(())
+}
+
+/// Where the rows of each source begin.
+fn judge_rows(rows: &[RowBytes], entries: &[Entry], cycle: u32) -> Result<[u32; 33], Refusal> {
+    let mut starts = [0; 33];
+    // The first row follows anything: a row before it that ends at minute 0.
+    let mut before = Row { derived: 0, begin: 0, end: 0, offset: 0, length: 0 };
+    let mut last = 0;
+    for (i, row) in (0..).zip(rows) {
+        let row = decode(row);
+        let entry = entries.get(row.derived as usize).ok_or(27u32)?;
+        let era = row.begin < row.end && row.end <= END;
+        ensure(era && row.length > 0 && row.cell_end() <= cycle, 27)?;
+        let source = usize::from(entry[0]);
+        if source > last {
+            starts[last + 1..=source].fill(i);
+            last = source;
+        } else {
+            ensure(source == last && follows(&row, &before), 28)?;
+        }
+        before = row;
+    }
+    starts[last + 1..].fill(rows.len() as u32);
+    Ok(starts)
+}
+
+impl Policy for Table<'_> {
+    fn users(&self) -> u32 {
+        self.users.into()
+    }
+
+    fn permissions(&self) -> u32 {
+        self.permissions.into()
+    }
+
+    fn answer(&self, user: u32, permission: u32, t: u32) -> Option<u8> {
+        let grants =
+            |entry: &&Entry| has(u64_at(*entry, 1), user) && has(u64_at(*entry, 9), permission);
+        self.all_enabled(t).find(grants).map(|entry| entry[0])
+    }
+
+    fn holders(&self, t: u32) -> u64 {
+        self.all_enabled(t).fold(0, |holders, entry| holders | u64_at(entry, 1))
+    }
+}

@@ -1,0 +1,244 @@
+//! The quick implementation against the reference: rotas and tables that are well formed, damaged
+//! and cut, their rewriting byte for byte, lists of calls, and the calendar.
+
+use cases::case::{Case, Tally, cases};
+use cases::data;
+use cases::generate::{self, Edges, Sets};
+use cases::random::Random;
+use reference::policy::{Policy, question};
+use reference::rota::Rota;
+use reference::service::{Lent, State, serve};
+use reference::table::Table;
+use reference::{END, Refusal, calendar, rewriting};
+
+/// What was read, asked a few questions at such minutes and asked who holds anything.
+fn compare(
+    case: &mut Case,
+    tally: &mut Tally,
+    bytes: &[u8],
+    quick: Result<impl Policy, Refusal>,
+    expected: Result<&dyn Policy, Refusal>,
+    minute: impl Fn(&mut Random) -> u32,
+) {
+    tally.add(expected.as_ref().err().copied().unwrap_or(0));
+    let (quick, expected) = match (quick, expected) {
+        (Ok(quick), Ok(expected)) => (quick, expected),
+        (quick, expected) => return case.same(quick.err(), expected.err(), bytes, "read"),
+    };
+    let (users, permissions) = (expected.users(), expected.permissions());
+    case.same((quick.users(), quick.permissions()), (users, permissions), bytes, "read");
+    for _ in 0..6 {
+        let (user, permission, t) = (
+            generate::number(&mut case.random, users),
+            generate::number(&mut case.random, permissions),
+            minute(&mut case.random),
+        );
+        let answer = question(expected, user, permission, t);
+        tally.add(answer.err().unwrap_or(0));
+        let quickly = tuned::policy::question(&quick, user, permission, t);
+        case.same(quickly, answer, bytes, (user, permission, t));
+        let holders = if t < END { Ok(expected.holders(t)) } else { Err(33) };
+        case.same(tuned::policy::holders(&quick, t), holders, bytes, t);
+    }
+}
+
+fn compare_rota(case: &mut Case, tally: &mut Tally, bytes: &[u8], near: &Rota) {
+    let (quick, expected) = (tuned::rota::Rota::read(bytes), Rota::parse(bytes));
+    if let (Ok(quick), Ok(expected)) = (&quick, &expected) {
+        let counts = (quick.cycle, usize::from(quick.hours), quick.roles.len());
+        let wanted = (u32::from(expected.cycle), expected.hours.len(), expected.roles.len());
+        case.same(counts, wanted, bytes, "counts");
+        let rows = (quick.user_rows.len(), quick.permission_rows.len());
+        let wanted = (expected.user_rows.len(), expected.permission_rows.len());
+        case.same(rows, wanted, bytes, "rows");
+    }
+    let expected = expected.as_ref().map(|rota| rota as &dyn Policy).map_err(|&refusal| refusal);
+    let minute = |random: &mut Random| generate::rota_minute(random, near);
+    compare(case, tally, bytes, quick, expected, minute);
+}
+
+fn compare_table(case: &mut Case, tally: &mut Tally, bytes: &[u8], near: &Table) {
+    let (quick, expected) = (tuned::table::Table::read(bytes), Table::parse(bytes));
+    if let (Ok(quick), Ok(expected)) = (&quick, &expected) {
+        let counts = (quick.cycle, quick.roles, quick.entries.len(), quick.rows.len());
+        let (cycle, roles) = (u32::from(expected.cycle), expected.roles as u8);
+        let wanted = (cycle, roles, expected.derived.len(), expected.rows.len());
+        case.same(counts, wanted, bytes, "counts");
+    }
+    let expected = expected.as_ref().map(|table| table as &dyn Policy).map_err(|&refusal| refusal);
+    let minute = |random: &mut Random| generate::table_minute(random, near);
+    compare(case, tally, bytes, quick, expected, minute);
+}
+
+fn any_rota(random: &mut Random) -> Rota {
+    match random.below(4) {
+        0 => generate::rota(random),
+        1 => generate::granting_rota(random),
+        _ => generate::small_rota(random),
+    }
+}
+
+fn any_table(random: &mut Random) -> Table {
+    match random.below(4) {
+        0 => generate::table(random),
+        1 => rewriting::table(&generate::small_rota(random)),
+        _ => generate::small_table(random),
+    }
+}
+
+/// Each of these, the beginnings of its bytes, and its bytes with one more.
+fn every_length(bytes: &[u8], mut test: impl FnMut(&[u8])) {
+    let longer = [bytes, &[0]].concat();
+    (0..=longer.len()).for_each(|len| test(&longer[..len]));
+}
+
+#[test]
+fn rotas() {
+    let mut tally = Tally::new("tuned rotas");
+    cases("tuned rotas", 20_000, |case| {
+        let rota = any_rota(&mut case.random);
+        compare_rota(case, &mut tally, &rota.encode(), &rota);
+        let damaged = generate::damaged_rota(&mut case.random, &rota);
+        compare_rota(case, &mut tally, &damaged, &rota);
+        if case.number < 200 {
+            let small = generate::small_rota(&mut case.random);
+            every_length(&small.encode(), |bytes| compare_rota(case, &mut tally, bytes, &small));
+        }
+    });
+    tally.reached((0..=12).chain(33..=35));
+}
+
+#[test]
+fn rotas_at_the_limits() {
+    let mut tally = Tally::new("tuned rotas_at_the_limits");
+    for which in 0..generate::EDGE_SIZES {
+        let mut case = Case::new("tuned rotas_at_the_limits", which.into());
+        let rota = generate::rota_of(&mut case.random, &generate::edge_sizes(which));
+        compare_rota(&mut case, &mut tally, &rota.encode(), &rota);
+    }
+    tally.reached([0, 33, 34, 35]);
+}
+
+#[test]
+fn tables() {
+    let mut tally = Tally::new("tuned tables");
+    cases("tuned tables", 20_000, |case| {
+        let table = any_table(&mut case.random);
+        compare_table(case, &mut tally, &table.encode(), &table);
+        let damaged = generate::damaged_table(&mut case.random, &table);
+        compare_table(case, &mut tally, &damaged, &table);
+        if case.number < 100 {
+            let small = generate::small_table(&mut case.random);
+            every_length(&small.encode(), |bytes| compare_table(case, &mut tally, bytes, &small));
+        }
+    });
+    tally.reached((0..=0).chain(21..=28).chain(33..=35));
+}
+
+/// Into areas of the table's size, one less, one more, none, and any.
+#[test]
+fn rewritten() {
+    let mut tally = Tally::new("tuned rewritten");
+    cases("tuned rewritten", 3_000, |case| {
+        let rota = any_rota(&mut case.random);
+        let bytes = match case.random.below(4) {
+            0 => generate::damaged_rota(&mut case.random, &rota),
+            1 => generate::with_unused_hours(&mut case.random, &rota).encode(),
+            _ => rota.encode(),
+        };
+        compare_rewritten(case, &mut tally, &bytes);
+    });
+    let mut case = Case::new("tuned finest", 0);
+    compare_rewritten(&mut case, &mut tally, &data::small_rota());
+    for (roles, sets) in [(1, Sets::Many), (2, Sets::Many), (32, Sets::Same)] {
+        let rota = generate::fine_rota(&mut case.random, 32, 8, roles, sets);
+        compare_rewritten(&mut case, &mut tally, &rota.encode());
+    }
+    tally.reached((0..=12).chain([20]));
+}
+
+fn compare_rewritten(case: &mut Case, tally: &mut Tally, rota: &[u8]) {
+    let whole = Rota::parse(rota).map(|rota| rewriting::table(&rota).encode());
+    let size = whole.as_ref().map_or(16, Vec::len);
+    let any = case.random.below(2 * size as u32) as usize;
+    for size in [size, size - 1, size + 1, 0, any] {
+        let filling = case.random.byte();
+        let (mut area, mut expected_area) = (vec![filling; size], vec![filling; size]);
+        let given = tuned::rewriting::rewrite(rota, &mut area);
+        let expected = match &whole {
+            Err(refusal) => Err(*refusal),
+            Ok(table) if table.len() > size => Err(20),
+            Ok(_) => rewriting::rewrite(rota, &mut expected_area),
+        };
+        tally.add(expected.err().unwrap_or(0));
+        case.same(given, expected, rota, ("area", size));
+        assert!(area == expected_area, "the areas differ: seed {} {}", case.seed, case.number);
+    }
+}
+
+/// Lists of calls from the fresh state and from odd ones, on bytes that may be damaged.
+#[test]
+fn calls() {
+    let mut tally = Tally::new("tuned calls");
+    cases("tuned calls", 6_000, |case| {
+        if case.random.one_in(2) {
+            let rota = generate::small_rota(&mut case.random);
+            let bytes = match case.random.below(8) {
+                0 => generate::damaged_rota(&mut case.random, &rota),
+                _ => rota.encode(),
+            };
+            compare_calls(case, &mut tally, Lent::Rota(&bytes), &rota, Edges::of_rota(&rota));
+        } else {
+            let table = any_table(&mut case.random);
+            let bytes = match case.random.below(8) {
+                0 => generate::damaged_table(&mut case.random, &table),
+                _ => table.encode(),
+            };
+            compare_calls(case, &mut tally, Lent::Table(&bytes), &table, Edges::of_table(&table));
+        }
+    });
+    tally.reached((0..=12).chain(21..=28).chain([33, 34, 35, 40, 41, 42, 43, 44]));
+}
+
+fn compare_calls(case: &mut Case, tally: &mut Tally, lent: Lent, near: &dyn Policy, edges: Edges) {
+    let (Lent::Rota(bytes) | Lent::Table(bytes)) = lent;
+    for first in [State::default(), generate::state(&mut case.random, near.users(), &edges)] {
+        let mut state = first;
+        for _ in 0..15 {
+            let call = generate::call(&mut case.random, near, &edges, state);
+            let mut quick = state;
+            let given = tuned::service::serve(lent, &mut quick, call);
+            let before = state;
+            let expected = serve(lent, &mut state, call);
+            tally.add(expected.err().unwrap_or(0));
+            case.same((given, quick), (expected, state), bytes, (call, "in", before));
+        }
+    }
+}
+
+#[test]
+fn every_day_and_date() {
+    let mut case = Case::new("tuned every_day_and_date", 0);
+    for day in 0..=END / 1_440 {
+        let t = 1_440 * day + case.random.below(1_440);
+        for t in [1_440 * day, t, 1_440 * day + 1_439, case.random.bits() as u32] {
+            case.same(tuned::calendar::date(t), calendar::date(t), &[], t);
+        }
+    }
+    let edges = |random: &mut Random, limit| {
+        let any = random.below(limit);
+        random.pick(&[0, limit - 1, limit, limit + 1, 256, u32::MAX, any])
+    };
+    for year in (1_999..=2_402).chain([0, u32::MAX]) {
+        for month in (0..=13).chain([258, u32::MAX]) {
+            for day in (0..=33).chain([257, u32::MAX]) {
+                let (hour, minute) = (edges(&mut case.random, 24), edges(&mut case.random, 60));
+                for (hour, minute) in [(0, 0), (23, 59), (hour, minute)] {
+                    let given = tuned::calendar::minute(year, month, day, hour, minute);
+                    let expected = calendar::minute(year, month, day, hour, minute);
+                    case.same(given, expected, &[], (year, month, day, hour, minute));
+                }
+            }
+        }
+    }
+}
