@@ -6,6 +6,7 @@ use cases::random::Random;
 use comparison::ffi;
 use reference::rota::Rota;
 use reference::set;
+use reference::table::{DerivedRole, Table};
 use reference::{END, rewriting};
 
 /// How many questions each input has; they are asked in turn.
@@ -20,7 +21,8 @@ pub struct Question {
 
 pub struct Input {
     pub name: &'static str,
-    pub rota: Vec<u8>,
+    /// None with a table that no rewriting makes.
+    pub rota: Option<Vec<u8>>,
     pub table: Vec<u8>,
     pub derived: usize,
     pub rows: usize,
@@ -31,26 +33,33 @@ pub struct Input {
 
 impl Input {
     fn new(name: &'static str, rota: Rota) -> Input {
+        let bytes = rota.encode();
+        let table = rewriting::table(&rota);
+        let input = Input::of_table(name, &table, |random| rota_minute(random, &rota));
+        let mut area = vec![0; input.table.len()];
+        ffi::rewriting::rewrite(&bytes, &mut area);
+        assert!(area == input.table, "the two tables differ");
+        Input { rota: Some(bytes), ..input }
+    }
+
+    /// Half of the minutes are where answers change, half are any.
+    fn of_table(name: &'static str, table: &Table, near: impl Fn(&mut Random) -> u32) -> Input {
         let mut random = Random::new(1);
         let questions = (0..QUESTIONS)
             .map(|i| {
-                // Half of the minutes are where answers change, half are any.
-                let near = rota_minute(&mut random, &rota);
+                let near = near(&mut random);
                 let minute = if i % 2 == 0 && near < END { near } else { random.below(END) };
-                let user = random.below(rota.users.into());
-                Question { user, permission: random.below(rota.permissions.into()), minute }
+                let user = random.below(table.users.into());
+                Question { user, permission: random.below(table.permissions.into()), minute }
             })
             .collect();
-        let table = rewriting::table(&rota);
-        let bytes = table.encode();
-        assert!(ffi::rewriting::table(&rota.encode()) == bytes, "the two tables differ");
         Input {
             name,
-            rota: rota.encode(),
-            table: bytes,
+            rota: None,
+            table: table.encode(),
             derived: table.derived.len(),
             rows: table.rows.len(),
-            everyone: set::below(rota.users.into()),
+            everyone: set::below(table.users.into()),
             questions,
         }
     }
@@ -58,6 +67,14 @@ impl Input {
     pub fn question(&self, i: usize) -> Question {
         self.questions[i % QUESTIONS]
     }
+}
+
+/// As long as the table with the most rows, of derived roles alone.
+fn entries_alone() -> Table {
+    let entry = DerivedRole { source: 31, users: u64::MAX, permissions: u64::MAX };
+    let derived = vec![entry; 1_000_000];
+    let rows = Vec::new();
+    Table { cycle: 40_320, users: 64, permissions: 64, roles: 32, derived, rows }
 }
 
 pub fn inputs() -> Vec<Input> {
@@ -69,6 +86,10 @@ pub fn inputs() -> Vec<Input> {
         // 17 eras and 113 cells for 2 roles.
         Input::new("table of about 64 KiB", fine_rota(&mut random, 8, 7, 2, Sets::Same)),
         Input::new("many sets of one role", fine_rota(&mut random, 32, 8, 1, Sets::Many)),
+        // All counts of these two rotas are at their limits: no rota is longer, no table of one
+        // has more rows.
         Input::new("most rows", fine_rota(&mut random, 32, 8, 32, Sets::Same)),
+        Input::new("most rows, many sets", fine_rota(&mut random, 32, 8, 32, Sets::Many)),
+        Input::of_table("derived roles alone", &entries_alone(), |random| random.below(END)),
     ]
 }

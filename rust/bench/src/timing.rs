@@ -7,52 +7,67 @@ use std::time::{Duration, Instant};
 #[derive(Clone, Copy)]
 pub struct Times {
     pub proved: f64,
-    pub reference: f64,
+    pub tuned: f64,
 }
 
 /// How long one round of calls is to take: short, so that some round is not interrupted.
 const ROUND: Duration = Duration::from_millis(1);
-/// How long the rounds of one function are to take together, and how many there are at most.
-const ALL: Duration = Duration::from_millis(80);
-const ROUNDS: u32 = 60;
+/// How long the rounds of one function are to take together, and how many there are at least:
+/// so many that some are quiet even where others wait for a core.
+const ALL: Duration = Duration::from_millis(240);
+const LEAST_ROUNDS: u32 = 5;
 
-/// Calls with the numbers from 0 on; gives the time of one round.
-fn round<T>(calls: usize, f: &mut impl FnMut(usize) -> T) -> Duration {
-    let start = Instant::now();
-    for i in 0..calls {
-        black_box(f(i));
-    }
-    start.elapsed()
+/// A function with the number of calls that make a round, and its quickest round.
+struct Timed<F> {
+    call: F,
+    calls: usize,
+    best: Duration,
 }
 
-/// So many calls that a round takes long enough to be timed.
-fn calls<T>(f: &mut impl FnMut(usize) -> T) -> usize {
-    let mut calls = 1;
-    while round(calls, f) < ROUND {
-        calls *= 2;
-    }
-    calls
-}
-
-/// The quickest round of each; rounds alternate. Where one call takes long there are few.
-pub fn time<T, U>(
-    mut proved: impl FnMut(usize) -> T,
-    mut reference: impl FnMut(usize) -> U,
-) -> Times {
-    let (proved_calls, reference_calls) = (calls(&mut proved), calls(&mut reference));
-    let (mut best_proved, mut best_reference) = (Duration::MAX, Duration::MAX);
-    let mut spent = Duration::ZERO;
-    for _ in 0..ROUNDS {
-        let took = round(proved_calls, &mut proved);
-        best_proved = best_proved.min(took);
-        best_reference = best_reference.min(round(reference_calls, &mut reference));
-        spent += took;
-        if spent > ALL {
-            break;
+impl<T, F: FnMut(usize) -> T> Timed<F> {
+    /// Finds how many calls take long enough to be timed. A round that was interrupted does not
+    /// count as long enough, so the best of a few is taken.
+    fn new(call: F) -> Self {
+        let mut timed = Timed { call, calls: 1, best: Duration::MAX };
+        loop {
+            for _ in 0..3 {
+                timed.round();
+                if timed.best < ROUND {
+                    break;
+                }
+            }
+            if timed.best >= ROUND {
+                return timed;
+            }
+            timed.calls *= 2;
+            timed.best = Duration::MAX;
         }
     }
-    Times {
-        proved: best_proved.as_secs_f64() / proved_calls as f64,
-        reference: best_reference.as_secs_f64() / reference_calls as f64,
+
+    /// Calls with the numbers from 0 on.
+    fn round(&mut self) {
+        let start = Instant::now();
+        for i in 0..self.calls {
+            black_box((self.call)(i));
+        }
+        self.best = self.best.min(start.elapsed());
     }
+
+    /// Seconds for one call.
+    fn seconds(&self) -> f64 {
+        self.best.as_secs_f64() / self.calls as f64
+    }
+}
+
+/// The quickest round of each; rounds alternate. Where one call takes long there are few. Their
+/// number follows from the quickest, not from the time spent: interrupted rounds use up nothing.
+pub fn time<T, U>(proved: impl FnMut(usize) -> T, tuned: impl FnMut(usize) -> U) -> Times {
+    let (mut proved, mut tuned) = (Timed::new(proved), Timed::new(tuned));
+    let mut rounds = 0;
+    while rounds < LEAST_ROUNDS || proved.best.max(tuned.best) * rounds < ALL {
+        proved.round();
+        tuned.round();
+        rounds += 1;
+    }
+    Times { proved: proved.seconds(), tuned: tuned.seconds() }
 }

@@ -115,12 +115,7 @@ impl<'a> Rota<'a> {
         ensure(role_hours.iter().all(|&reference| known(reference)), 10)?;
         let (rows, _) = rows.as_chunks();
         let (user_rows, permission_rows) = rows.split_at(user_rows.into());
-        // Without an early end, which a rota that is accepted never takes.
-        let fit = |rows: &[Row], numbers: u8| {
-            rows.iter().fold(true, |fit, &[number, role, reference]| {
-                fit & (number < numbers) & (role < roles) & known(reference)
-            })
-        };
+        let fit = |rows: &[Row], numbers: u8| all_below(rows, [numbers, roles, hours + 1]);
         ensure(fit(user_rows, users), 11)?;
         ensure(fit(permission_rows, permissions), 12)?;
         let roles = role_hours;
@@ -154,11 +149,29 @@ impl<'a> Rota<'a> {
     }
 }
 
-/// The set of roles of the rows that hold and are `wanted`.
-fn roles_of(rows: &[Row], held: Held, wanted: impl Fn(u8) -> bool) -> u32 {
-    rows.iter().fold(0, |roles, &[number, role, hours]| {
-        roles | u32::from(wanted(number) & holds(held, hours)) << role
-    })
+/// Whether each row's number, role, and hours reference with 1 added, where 255 becomes 0, are
+/// below these. Sixteen rows at a time, so that whole vectors of bytes are compared.
+fn all_below(rows: &[Row], limits: Row) -> bool {
+    const ADDED: Row = [0, 0, 1];
+    let (chunks, rest) = rows.as_chunks::<16>();
+    let is_below = |row: &Row| (0..3).all(|i| row[i].wrapping_add(ADDED[i]) < limits[i]);
+    if chunks.is_empty() {
+        return rest.iter().all(is_below);
+    }
+    let (added, limits) = ([ADDED; 16], [limits; 16]);
+    let none_over = |chunk: &[Row; 16]| {
+        let bytes = chunk.as_flattened().iter().zip(added.as_flattened());
+        let over = bytes.zip(limits.as_flattened()).fold(0u8, |over, ((byte, added), limit)| {
+            over | u8::from(byte.wrapping_add(*added) >= *limit)
+        });
+        over == 0
+    };
+    chunks.iter().all(none_over) && rest.iter().all(is_below)
+}
+
+/// The set of roles of those of the rows that hold.
+fn roles_of<'a>(rows: impl Iterator<Item = &'a Row>, held: Held) -> u32 {
+    rows.fold(0, |roles, &[_, role, hours]| roles | u32::from(holds(held, hours)) << role)
 }
 
 impl Policy for Rota<'_> {
@@ -174,7 +187,8 @@ impl Policy for Rota<'_> {
         let held = self.held(t);
         let mut roles = self.enabled(held);
         for (rows, asked) in [(self.user_rows, user), (self.permission_rows, permission)] {
-            roles &= roles_of(rows, held, |number| u32::from(number) == asked);
+            let of_asked = rows.iter().filter(|row| u32::from(row[0]) == asked);
+            roles &= roles_of(of_asked, held);
             if roles == 0 {
                 return None;
             }
@@ -184,7 +198,7 @@ impl Policy for Rota<'_> {
 
     fn holders(&self, t: u32) -> u64 {
         let held = self.held(t);
-        let granting = self.enabled(held) & roles_of(self.permission_rows, held, |_| true);
+        let granting = self.enabled(held) & roles_of(self.permission_rows.iter(), held);
         if granting == 0 {
             return 0;
         }

@@ -39,13 +39,6 @@ pub fn encode(row: &Row) -> RowBytes {
     bytes
 }
 
-/// Whether a row may follow one of the same source.
-#[inline]
-fn follows(row: &Row, before: &Row) -> bool {
-    let same_era = row.begin == before.begin && row.end == before.end;
-    before.end <= row.begin || (same_era && before.cell_end() <= row.offset.into())
-}
-
 /// Bytes of a table with that many derived roles and rows.
 pub fn size(derived: u64, rows: u64) -> u64 {
     HEADER_SIZE as u64 + derived * size_of::<Entry>() as u64 + rows * size_of::<RowBytes>() as u64
@@ -131,35 +124,41 @@ fn judge_entries(
     let mut before = 0;
     for entry in entries {
         let (source, users, permissions) = (entry[0], u64_at(entry, 1), u64_at(entry, 9));
-        let sets = users != 0 && permissions != 0;
-        let known = users & !all_users == 0 && permissions & !all_permissions == 0;
-        ensure(before <= source && source < roles && sets && known, 26)?;
+        // One branch for all: an accepted table keeps every rule.
+        let sets = (users != 0) & (permissions != 0);
+        let known = (users & !all_users) | (permissions & !all_permissions) == 0;
+        ensure((before <= source) & (source < roles) & sets & known, 26)?;
         before = source;
     }
     Ok(())
 }
 
-/// Where the rows of each source begin.
+/// Where the rows of each source begin. Most rows go on in the era of the row before, which has
+/// been judged with it.
 fn judge_rows(rows: &[RowBytes], entries: &[Entry], cycle: u32) -> Result<[u32; 33], Refusal> {
     let mut starts = [0; 33];
-    // The first row follows anything: a row before it that ends at minute 0.
-    let mut before = Row { derived: 0, begin: 0, end: 0, offset: 0, length: 0 };
-    let mut last = 0;
+    let (mut last_source, mut last_era, mut last_cell_end) = (0, None, 0);
     for (i, row) in (0..).zip(rows) {
         let row = decode(row);
         let entry = entries.get(row.derived as usize).ok_or(27u32)?;
-        let era = row.begin < row.end && row.end <= END;
-        ensure(era && row.length > 0 && row.cell_end() <= cycle, 27)?;
-        let source = usize::from(entry[0]);
-        if source > last {
-            starts[last + 1..=source].fill(i);
-            last = source;
+        ensure(row.length > 0 && row.cell_end() <= cycle, 27)?;
+        let (source, era) = (usize::from(entry[0]), (row.begin, row.end));
+        if source == last_source && last_era == Some(era) {
+            ensure(last_cell_end <= row.offset.into(), 28)?;
         } else {
-            ensure(source == last && follows(&row, &before), 28)?;
+            ensure(row.begin < row.end && row.end <= END, 27)?;
+            if source == last_source {
+                ensure(last_era.is_none_or(|(_, end)| end <= row.begin), 28)?;
+            } else {
+                ensure(last_source < source, 28)?;
+                starts[last_source + 1..=source].fill(i);
+                last_source = source;
+            }
+            last_era = Some(era);
         }
-        before = row;
+        last_cell_end = row.cell_end();
     }
-    starts[last + 1..].fill(rows.len() as u32);
+    starts[last_source + 1..].fill(rows.len() as u32);
     Ok(starts)
 }
 
