@@ -188,7 +188,8 @@ fn main() {
         "operation", "input", "proved ns", "tuned ns", "ratio"
     );
     let chosen: Vec<String> = std::env::args().skip(1).collect();
-    let groups: [(&str, fn(&Input)); 4] =
+    type Group = fn(&Input);
+    let groups: [(&str, Group); 4] =
         [("rota", rota), ("table", table), ("rewrite", rewrite), ("service", service)];
     let is_chosen = |name: &str| chosen.is_empty() || chosen.iter().any(|group| group == name);
     for (name, group) in groups {

@@ -4,6 +4,7 @@
 //! SOFTLODE_SEED sets the seed, SOFTLODE_CASES the number of cases of each random test, and
 //! SOFTLODE_CASE runs only the case of that number.
 
+use std::collections::BTreeMap;
 use std::fmt::Debug;
 use std::io::Write;
 
@@ -19,7 +20,7 @@ pub struct Case {
 }
 
 /// A number from the environment; one that cannot be read stops the tests.
-fn setting(name: &str) -> Option<u64> {
+pub fn setting(name: &str) -> Option<u64> {
     let text = std::env::var(name).ok()?;
     Some(text.parse().unwrap_or_else(|_| panic!("{name} is not a number: {text}")))
 }
@@ -65,51 +66,102 @@ pub fn cases(name: &'static str, cases: u64, mut test: impl FnMut(&mut Case)) {
     }
 }
 
+/// Runs a random test in the same way, and gives what its cases reached.
+pub fn tallied(name: &'static str, count: u64, test: impl Fn(&mut Case, &mut Tally)) -> Tally {
+    let mut tally = Tally::new(name);
+    cases(name, count, |case| test(case, &mut tally));
+    tally
+}
+
 pub fn hex(bytes: &[u8]) -> String {
     bytes.iter().map(|byte| format!("{byte:02x}")).collect()
 }
 
-/// How often each refusal was reached; 0 counts what was accepted.
+/// How often each refusal was reached, where 0 counts what was accepted, and what else was.
 pub struct Tally {
     name: &'static str,
-    counts: [u64; 64],
+    refusals: [u64; 64],
+    others: BTreeMap<&'static str, u64>,
 }
 
 impl Tally {
     pub fn new(name: &'static str) -> Tally {
-        Tally { name, counts: [0; 64] }
+        Tally { name, refusals: [0; 64], others: BTreeMap::new() }
     }
 
     pub fn add(&mut self, refusal: u32) {
-        self.counts[refusal as usize] += 1;
+        self.refusals[refusal as usize] += 1;
+    }
+
+    /// Counts something else that was reached.
+    pub fn count(&mut self, what: &'static str) {
+        self.count_more(1, what);
+    }
+
+    pub fn count_if(&mut self, is_reached: bool, what: &'static str) {
+        self.count_more(is_reached.into(), what);
+    }
+
+    pub fn count_more(&mut self, times: u64, what: &'static str) {
+        *self.others.entry(what).or_default() += times;
     }
 
     pub fn total(&self) -> u64 {
-        self.counts.iter().sum()
+        self.refusals.iter().sum()
+    }
+
+    /// Adds what another one counted.
+    pub fn join(&mut self, other: &Tally) {
+        for (count, more) in self.refusals.iter_mut().zip(other.refusals) {
+            *count += more;
+        }
+        for (what, &count) in &other.others {
+            self.count_more(count, what);
+        }
+    }
+
+    /// The counts in one line.
+    pub fn line(&self) -> String {
+        let mut line = format!("{}: {} outcomes; refusal: count", self.name, self.total());
+        for (refusal, count) in self.refusals.iter().enumerate().filter(|(_, count)| **count > 0) {
+            line += &format!(" {refusal}: {count}");
+        }
+        for (what, count) in &self.others {
+            line += &format!(", {what}: {count}");
+        }
+        line
+    }
+
+    /// Those of these refusals that were not reached.
+    pub fn missed(&self, refusals: impl IntoIterator<Item = u32>) -> Vec<u32> {
+        let is_missed = |refusal: &u32| self.reached_times(*refusal) == 0;
+        refusals.into_iter().filter(is_missed).collect()
     }
 
     /// Prints the counts, past the test harness, and asks that each of these was reached.
-    pub fn reached(&self, refusals: impl IntoIterator<Item = u32>) {
-        let mut line = format!("{}: {} cases; refusal: count", self.name, self.total());
-        for (refusal, count) in self.counts.iter().enumerate().filter(|(_, count)| **count > 0) {
-            line += &format!(" {refusal}: {count}");
-        }
-        print(&line);
+    pub fn reached(&self, refusals: impl IntoIterator<Item = u32>) -> &Tally {
+        print(&self.line());
         if is_whole_run() {
-            for refusal in refusals {
-                assert!(self.counts[refusal as usize] > 0, "{}: {refusal} not reached", self.name);
-            }
+            assert_eq!(self.missed(refusals), [], "{}: not reached", self.name);
         }
+        self
     }
 
-    /// The same for what else was counted.
-    pub fn also(&self, counts: &[(&str, u64)]) {
-        let listed: Vec<String> =
-            counts.iter().map(|(what, count)| format!("{what}: {count}")).collect();
-        print(&format!("{}: {}", self.name, listed.join(", ")));
+    /// How often a refusal was reached; 0 is for what was accepted.
+    pub fn reached_times(&self, refusal: u32) -> u64 {
+        self.refusals[refusal as usize]
+    }
+
+    /// How often something else was reached.
+    pub fn counted(&self, what: &str) -> u64 {
+        self.others.get(what).copied().unwrap_or(0)
+    }
+
+    /// Asks the same of what else was counted.
+    pub fn also(&self, counted: &[&str]) {
         if is_whole_run() {
-            for (what, count) in counts {
-                assert!(*count > 0, "{}: {what} not reached", self.name);
+            for what in counted {
+                assert!(self.counted(what) > 0, "{}: {what} not reached", self.name);
             }
         }
     }

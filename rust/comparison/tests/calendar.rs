@@ -1,24 +1,11 @@
 //! The calendar: every day both ways, and every date or time that does not exist.
 
-use cases::case::{Case, cases};
-use comparison::{expected, ffi};
+use cases::case::{Case, Tally, tallied};
+use comparison::compare::calendar::{self, compare_date, compare_minute};
+use comparison::ffi;
 use reference::END;
 
 const MINUTES_PER_DAY: u32 = 1_440;
-
-fn compare_date(case: &Case, minute: u32) {
-    case.same(ffi::date(minute), expected::date(minute), &[], ("date of minute", minute));
-}
-
-/// Year, month, day, hour, minute.
-type Fields = (u32, u32, u32, u32, u32);
-
-fn compare_minute(case: &Case, fields: Fields) {
-    let (year, month, day, hour, minute) = fields;
-    let proved = ffi::minute(year, month, day, hour, minute);
-    let expected = expected::minute(year, month, day, hour, minute);
-    case.same(proved, expected, &[], ("minute of date", fields));
-}
 
 #[test]
 fn worked_dates() {
@@ -36,45 +23,52 @@ fn worked_dates() {
 
 #[test]
 fn every_day_both_ways() {
+    let mut tally = Tally::new("every_day_both_ways");
     let mut case = Case::new("every_day_both_ways", 0);
     for day in 0..END / MINUTES_PER_DAY {
         let any = case.random.below(MINUTES_PER_DAY);
         for in_day in [0, 1, 59, 60, 719, 720, 1_380, 1_439, any] {
             let minute = day * MINUTES_PER_DAY + in_day;
-            compare_date(&case, minute);
+            compare_date(&case, &mut tally, minute);
             let date = ffi::date(minute);
             let back = ffi::minute(date.year, date.month, date.day, date.hour, date.minute);
             case.same(back, ffi::Minute { refusal: 0, minute }, &[], ("back from", date));
         }
     }
+    tally.reached([0]);
 }
 
 #[test]
 fn every_minute_of_some_days() {
+    let mut tally = Tally::new("every_minute_of_some_days");
     let case = Case::new("every_minute_of_some_days", 0);
     // Days 0 and 1, the leap day of 2004, the end of February 2100, and the last two days.
     for day in [0, 1, 1_154, 36_217, 36_218, 146_095, 146_096] {
         for minute in day * MINUTES_PER_DAY..(day + 1) * MINUTES_PER_DAY {
-            compare_date(&case, minute);
+            compare_date(&case, &mut tally, minute);
         }
     }
+    tally.reached([0]);
 }
 
 /// Every month and day number of every year, whether the date exists or not.
 #[test]
 fn every_date_existing_or_not() {
+    let mut tally = Tally::new("every_date_existing_or_not");
     let case = Case::new("every_date_existing_or_not", 0);
     for year in 1999..=2402 {
         for month in 0..=14 {
             for day in 0..=33 {
-                compare_minute(&case, (year, month, day, 0, 0));
+                compare_minute(&case, &mut tally, (year, month, day, 0, 0));
             }
         }
     }
+    tally.reached([0, 50]);
 }
 
 #[test]
 fn fields_at_and_over_their_limits() {
+    let mut tally = Tally::new("fields_at_and_over_their_limits");
     let case = Case::new("fields_at_and_over_their_limits", 0);
     let over = [255, 256, 257, 65_535, 65_536, 1 << 31, u32::MAX - 1, u32::MAX];
     let with = |some: &[u32]| -> Vec<u32> { some.iter().chain(&over).copied().collect() };
@@ -88,41 +82,30 @@ fn fields_at_and_over_their_limits() {
             for &day in &days {
                 for &hour in &hours {
                     for &minute in &minutes {
-                        compare_minute(&case, (year, month, day, hour, minute));
+                        compare_minute(&case, &mut tally, (year, month, day, hour, minute));
                     }
                 }
             }
         }
     }
+    tally.reached([0, 50]);
 }
 
 #[test]
 fn minutes_over_the_last() {
+    let mut tally = Tally::new("minutes_over_the_last");
     let case = Case::new("minutes_over_the_last", 0);
     for minute in (END - 5..END + 5).chain(u32::MAX - 5..=u32::MAX).chain([1 << 28, 1 << 31]) {
-        compare_date(&case, minute);
+        compare_date(&case, &mut tally, minute);
     }
     for bit in 0..32 {
-        compare_date(&case, 1 << bit);
-        compare_date(&case, (1 << bit) - 1);
+        compare_date(&case, &mut tally, 1 << bit);
+        compare_date(&case, &mut tally, (1 << bit) - 1);
     }
+    tally.reached([0, 33]);
 }
 
 #[test]
 fn random_minutes_and_dates() {
-    cases("random_minutes_and_dates", 50_000, |case| {
-        let minute = case.random.below(END);
-        compare_date(case, minute);
-        let any = case.random.bits() as u32;
-        compare_date(case, any);
-        let random = &mut case.random;
-        let fields = (
-            random.between(1_990, 2_410),
-            random.between(0, 13),
-            random.between(0, 32),
-            random.between(0, 24),
-            random.between(0, 60),
-        );
-        compare_minute(case, fields);
-    });
+    tallied("random_minutes_and_dates", 50_000, calendar::any).reached([0, 33, 50]);
 }

@@ -2,79 +2,16 @@
 
 use std::time::Instant;
 
-use cases::case::{Case, Tally, cases, print};
+use cases::case::{Case, Tally, cases, print, tallied};
 use cases::generate::{Sets, fine_rota};
 use cases::{data, generate};
-use comparison::expected::rewriting::{Whole, whole};
-use comparison::{expected, ffi};
+use comparison::compare::rewriting::{self, Lent, compare, compare_areas};
+use comparison::expected::rewriting::Whole;
+use comparison::ffi;
+use reference::END;
 use reference::hours::{Hours, HoursRef};
 use reference::rota::{Rota, Row};
 use reference::table::Table;
-use reference::{END, Refusal};
-
-/// A rota's bytes with the table that the reference makes of them, so that it makes it once.
-struct Lent {
-    bytes: Vec<u8>,
-    whole: Result<Whole, Refusal>,
-}
-
-impl Lent {
-    fn new(bytes: Vec<u8>) -> Lent {
-        let whole = whole(&bytes);
-        Lent { bytes, whole }
-    }
-
-    /// The table's size; 16 where there is none.
-    fn size(&self) -> usize {
-        self.whole.as_ref().map_or(16, |whole| whole.bytes.len())
-    }
-}
-
-/// Bytes kept before and after the area, which nobody may touch.
-const MARGIN: usize = 64;
-
-/// Rewrites into an area of that size, filled at random, inside more such bytes: compares the
-/// outcome and every byte, and has the proved reader read the table. The area begins at any
-/// place, so that numbers lie at odd ones too.
-fn compare(case: &mut Case, tally: &mut Tally, lent: &Lent, size: usize) -> u32 {
-    let from = MARGIN + case.random.below(8) as usize;
-    let area = from..from + size;
-    let filling = case.random.bytes((area.end + MARGIN).min(1 << 16));
-    let mut expected_memory: Vec<u8> =
-        filling.iter().copied().cycle().take(area.end + MARGIN).collect();
-    let mut memory = expected_memory.clone();
-
-    let expected = expected::rewriting::rewrite(&lent.whole, &mut expected_memory[area.clone()]);
-    let proved = ffi::rewriting::rewrite(&lent.bytes, &mut memory[area.clone()]);
-    tally.add(expected.refusal);
-    let what = ("rewrite", "area", size);
-    case.same(proved, expected, &lent.bytes, what);
-    if memory != expected_memory {
-        let differs = |i: &usize| memory[*i] != expected_memory[*i];
-        let at = (0..memory.len()).find(differs).expect("they differ");
-        // A byte's place is counted from the area's start; it may lie before it or past its end.
-        let place = at as i64 - from as i64;
-        case.same(memory[at], expected_memory[at], &lent.bytes, (what, "byte", place));
-    }
-    if expected.refusal == 0 {
-        let table = &memory[from..from + expected.length as usize];
-        let read = ffi::table::read(table);
-        let counts = (read.refusal, read.derived, read.rows);
-        case.same(counts, (0, expected.derived, expected.rows), &lent.bytes, "read the table");
-    }
-    expected.refusal
-}
-
-/// Areas of exactly the size, one byte less, one more, none, much larger, and one that is
-/// too small by any amount.
-fn compare_areas(case: &mut Case, tally: &mut Tally, lent: &Lent) {
-    let size = lent.size();
-    let larger = size + case.random.between(2, 5_000) as usize;
-    let smaller = case.random.below(size as u32) as usize;
-    for size in [size, size - 1, size + 1, 0, larger, smaller] {
-        compare(case, tally, lent, size);
-    }
-}
 
 fn small() -> Rota {
     Rota::parse(&data::small_rota()).expect("well formed")
@@ -213,89 +150,39 @@ fn limits() {
 #[test]
 fn counts_of_0_alone_and_together() {
     let mut tally = Tally::new("counts_of_0_alone_and_together");
-    let mut bare = 0u64;
     for which in 0..generate::EDGE_SIZES {
         let mut case = Case::new("counts_of_0_alone_and_together", which.into());
         let rota = generate::rota_of(&mut case.random, &generate::edge_sizes(which));
-        let lent = Lent::new(rota.encode());
-        bare += u64::from(lent.size() == 16);
-        compare_areas(&mut case, &mut tally, &lent);
+        compare_areas(&mut case, &mut tally, &Lent::new(rota.encode()));
     }
     tally.reached([0, 20]);
-    tally.also(&[("bare header", bare), ("rows", u64::from(generate::EDGE_SIZES) - bare)]);
+    tally.also(&["bare header", "rows"]);
 }
 
-/// Rotas of all sizes up to the limits.
 #[test]
 fn random_rotas() {
-    let mut tally = Tally::new("random_rotas");
-    let (mut bare, mut repeated) = (0u64, 0u64);
-    cases("random_rotas", 2_000, |case| {
-        let rota = match case.random.below(3) {
-            0 => generate::rota(&mut case.random),
-            _ => generate::granting_rota(&mut case.random),
-        };
-        let lent = Lent::new(rota.encode());
-        if let Ok(whole) = &lent.whole {
-            bare += u64::from(whole.rows == 0);
-            repeated += u64::from(whole.derived < whole.rows);
-        }
-        compare_areas(case, &mut tally, &lent);
-    });
-    tally.reached([0, 20]);
-    tally.also(&[("bare header", bare), ("a derived role with several rows", repeated)]);
+    tallied("random_rotas", 2_000, rewriting::any_size)
+        .reached([0, 20])
+        .also(&["bare header", "a derived role with several rows"]);
 }
 
-/// Small rotas, where eras are often shorter than the cycle.
 #[test]
 fn small_rotas() {
-    let mut tally = Tally::new("small_rotas");
-    let mut short = 0u64;
-    cases("small_rotas", 2_500, |case| {
-        let rota = generate::small_rota(&mut case.random);
-        let shorter = |&(begin, end): &(u32, u32)| end - begin < rota.cycle.into();
-        short += u64::from(reference::rewriting::eras(&rota).iter().any(shorter));
-        compare_areas(case, &mut tally, &Lent::new(rota.encode()));
-    });
-    tally.reached([0, 20]);
-    tally.also(&[("an era shorter than the cycle", short)]);
+    tallied("small_rotas", 2_500, rewriting::small)
+        .reached([0, 20])
+        .also(&["an era shorter than the cycle"]);
 }
 
-/// Hours that nothing refers to cut eras and cells as well.
 #[test]
 fn unused_hours() {
-    let mut tally = Tally::new("unused_hours");
-    let mut more = 0u64;
-    cases("unused_hours", 1_000, |case| {
-        let rota = match case.random.below(4) {
-            0 => generate::granting_rota(&mut case.random),
-            _ => generate::small_rota(&mut case.random),
-        };
-        let with_unused = generate::with_unused_hours(&mut case.random, &rota);
-        let (before, lent) = (Lent::new(rota.encode()), Lent::new(with_unused.encode()));
-        more += u64::from(before.size() < lent.size());
-        compare_areas(case, &mut tally, &lent);
-    });
-    tally.reached([0, 20]);
-    tally.also(&[("a table made longer", more)]);
+    tallied("unused_hours", 1_000, rewriting::unused_hours)
+        .reached([0, 20])
+        .also(&["a table made longer"]);
 }
 
-/// The rota's refusals come before 20, and leave the area whole.
 #[test]
 fn damaged_rotas() {
-    let mut tally = Tally::new("damaged_rotas");
-    cases("damaged_rotas", 3_000, |case| {
-        let rota = match case.random.below(8) {
-            0 => generate::rota(&mut case.random),
-            _ => generate::small_rota(&mut case.random),
-        };
-        let lent = Lent::new(generate::damaged_rota(&mut case.random, &rota));
-        let any = case.random.below(400) as usize;
-        for size in [0, lent.size(), any] {
-            compare(case, &mut tally, &lent, size);
-        }
-    });
-    tally.reached((0..=12).chain([20]));
+    tallied("damaged_rotas", 3_000, rewriting::damaged).reached((0..=12).chain([20]));
 }
 
 /// Every length of a rota's bytes, and every byte changed.

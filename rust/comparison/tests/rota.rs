@@ -1,64 +1,17 @@
 //! Rotas: read, asked, and asked who holds anything; well formed and damaged.
 
-use cases::case::{Case, Tally, cases};
+use cases::case::{Case, Tally, cases, tallied};
 use cases::{data, generate};
-use comparison::{expected, ffi};
+use comparison::compare::asked::{
+    self, compare_all, compare_holders, compare_question, compare_read,
+};
+use comparison::compare::rota;
+use comparison::ffi;
+use reference::END;
 use reference::hours::{Hours, HoursRef};
 use reference::rota::{Rota, Row};
-use reference::{END, Refusal};
 
-/// Bytes with what the reference reads in them, so that it reads them once.
-struct Lent {
-    bytes: Vec<u8>,
-    rota: Result<Rota, Refusal>,
-}
-
-impl Lent {
-    fn new(bytes: Vec<u8>) -> Lent {
-        let rota = Rota::parse(&bytes);
-        Lent { bytes, rota }
-    }
-}
-
-fn compare_read(case: &Case, tally: &mut Tally, lent: &Lent) {
-    let expected = expected::rota::read(&lent.rota);
-    tally.add(expected.refusal);
-    case.same(ffi::rota::read(&lent.bytes), expected, &lent.bytes, "read");
-}
-
-fn compare_question(
-    case: &Case,
-    tally: &mut Tally,
-    lent: &Lent,
-    user: u32,
-    permission: u32,
-    t: u32,
-) {
-    let expected = expected::rota::question(&lent.rota, user, permission, t);
-    tally.add(expected.refusal);
-    let proved = ffi::rota::question(&lent.bytes, user, permission, t);
-    let given = ("question", "user", user, "permission", permission, "minute", t);
-    case.same(proved, expected, &lent.bytes, given);
-}
-
-fn compare_holders(case: &Case, tally: &mut Tally, lent: &Lent, t: u32) {
-    let expected = expected::rota::holders(&lent.rota, t);
-    tally.add(expected.refusal);
-    case.same(ffi::rota::holders(&lent.bytes, t), expected, &lent.bytes, ("holders", "minute", t));
-}
-
-/// Reads the bytes, and asks a few questions at minutes where `rota`'s answers may change.
-fn compare_all(case: &mut Case, tally: &mut Tally, lent: &Lent, rota: &Rota, questions: u32) {
-    compare_read(case, tally, lent);
-    for _ in 0..questions {
-        let user = generate::number(&mut case.random, rota.users.into());
-        let permission = generate::number(&mut case.random, rota.permissions.into());
-        let t = generate::rota_minute(&mut case.random, rota);
-        compare_question(case, tally, lent, user, permission, t);
-    }
-    let t = generate::rota_minute(&mut case.random, rota);
-    compare_holders(case, tally, lent, t);
-}
+type Lent = asked::Lent<Rota>;
 
 fn small() -> Rota {
     Rota::parse(&data::small_rota()).expect("well formed")
@@ -202,34 +155,9 @@ fn counts_of_0_alone_and_together() {
 
 #[test]
 fn well_formed_rotas() {
-    let mut tally = Tally::new("well_formed_rotas");
-    let (mut yes, mut no) = (0u64, 0u64);
-    cases("well_formed_rotas", 20_000, |case| {
-        let rota = match case.random.below(4) {
-            0 => generate::small_rota(&mut case.random),
-            _ => generate::rota(&mut case.random),
-        };
-        let lent = Lent::new(rota.encode());
-        assert!(lent.rota.is_ok(), "the builder makes only accepted rotas");
-        compare_all(case, &mut tally, &lent, &rota, 6);
-        // A question that is likely to be a yes: a row's own user, another row's permission.
-        if !rota.user_rows.is_empty() && !rota.permission_rows.is_empty() {
-            for _ in 0..3 {
-                let user_row = case.random.pick(&rota.user_rows);
-                let same_role = rota.permission_rows.iter().find(|row| row.role == user_row.role);
-                let permission = same_role.unwrap_or(&rota.permission_rows[0]).number;
-                let t = generate::rota_minute(&mut case.random, &rota);
-                let (user, permission) = (user_row.number.into(), permission.into());
-                compare_question(case, &mut tally, &lent, user, permission, t);
-                match ffi::rota::question(&lent.bytes, user, permission, t).yes {
-                    0 => no += 1,
-                    _ => yes += 1,
-                }
-            }
-        }
-    });
-    tally.reached([0, 33, 34, 35]);
-    tally.also(&[("yes", yes), ("no", no)]);
+    tallied("well_formed_rotas", 20_000, rota::well_formed)
+        .reached([0, 33, 34, 35])
+        .also(&["yes", "no"]);
 }
 
 /// Every user, permission and minute of a stretch, and the set of holders.
@@ -292,7 +220,7 @@ fn every_length() {
         bytes.extend(extra);
         for len in 0..=bytes.len() {
             let lent = Lent::new(bytes[..len].to_vec());
-            assert_eq!(lent.rota.is_ok(), len == whole);
+            assert_eq!(lent.parsed.is_ok(), len == whole);
             compare_all(case, &mut tally, &lent, &rota, 1);
         }
     });
@@ -317,40 +245,12 @@ fn every_byte_changed() {
     tally.reached((0..=0).chain(2..=12));
 }
 
-/// Several faults at once, so that the order of refusals shows.
 #[test]
 fn several_faults() {
-    let mut tally = Tally::new("several_faults");
-    cases("several_faults", 40_000, |case| {
-        let rota = match case.random.below(8) {
-            0 => generate::rota(&mut case.random),
-            _ => generate::small_rota(&mut case.random),
-        };
-        let bytes = generate::damaged_rota(&mut case.random, &rota);
-        compare_all(case, &mut tally, &Lent::new(bytes), &rota, 1);
-    });
-    tally.reached((0..=12).chain([33, 34, 35]));
+    tallied("several_faults", 40_000, rota::several_faults).reached((0..=12).chain([33, 34, 35]));
 }
 
-/// Any bytes behind a header that passes, so that the records are read in them.
 #[test]
-fn any_bytes_behind_a_header() {
-    let mut tally = Tally::new("any_bytes_behind_a_header");
-    cases("any_bytes_behind_a_header", 20_000, |case| {
-        let rota = generate::small_rota(&mut case.random);
-        let mut bytes = rota.encode();
-        let from = case.random.below(bytes.len() as u32) as usize;
-        let sparse = case.random.one_in(2);
-        for byte in &mut bytes[from..] {
-            if !sparse || case.random.one_in(4) {
-                *byte = if case.random.one_in(2) {
-                    case.random.byte()
-                } else {
-                    case.random.below(4) as u8
-                };
-            }
-        }
-        compare_all(case, &mut tally, &Lent::new(bytes), &rota, 1);
-    });
-    tally.reached([0]);
+fn any_bytes() {
+    tallied("any_bytes", 20_000, rota::any_bytes).reached([0]);
 }

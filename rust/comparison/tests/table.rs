@@ -1,64 +1,17 @@
 //! Tables: read, asked, and asked who holds anything; rewritten, made by hand and damaged.
 
-use cases::case::{Case, Tally, cases};
+use cases::case::{Case, Tally, cases, tallied};
 use cases::{data, generate};
+use comparison::compare::asked::{
+    self, compare_all, compare_holders, compare_question, compare_read,
+};
+use comparison::compare::table;
 use comparison::{expected, ffi};
+use reference::END;
 use reference::rewriting;
 use reference::table::{DerivedRole, Row, Table};
-use reference::{END, Refusal};
 
-/// Bytes with what the reference reads in them, so that it reads them once.
-struct Lent {
-    bytes: Vec<u8>,
-    table: Result<Table, Refusal>,
-}
-
-impl Lent {
-    fn new(bytes: Vec<u8>) -> Lent {
-        let table = Table::parse(&bytes);
-        Lent { bytes, table }
-    }
-}
-
-fn compare_read(case: &Case, tally: &mut Tally, lent: &Lent) {
-    let expected = expected::table::read(&lent.table);
-    tally.add(expected.refusal);
-    case.same(ffi::table::read(&lent.bytes), expected, &lent.bytes, "read");
-}
-
-fn compare_question(
-    case: &Case,
-    tally: &mut Tally,
-    lent: &Lent,
-    user: u32,
-    permission: u32,
-    t: u32,
-) {
-    let expected = expected::table::question(&lent.table, user, permission, t);
-    tally.add(expected.refusal);
-    let proved = ffi::table::question(&lent.bytes, user, permission, t);
-    let given = ("question", "user", user, "permission", permission, "minute", t);
-    case.same(proved, expected, &lent.bytes, given);
-}
-
-fn compare_holders(case: &Case, tally: &mut Tally, lent: &Lent, t: u32) {
-    let expected = expected::table::holders(&lent.table, t);
-    tally.add(expected.refusal);
-    case.same(ffi::table::holders(&lent.bytes, t), expected, &lent.bytes, ("holders", "minute", t));
-}
-
-/// Reads the bytes, and asks a few questions at minutes where `table`'s answers may change.
-fn compare_all(case: &mut Case, tally: &mut Tally, lent: &Lent, table: &Table, questions: u32) {
-    compare_read(case, tally, lent);
-    for _ in 0..questions {
-        let user = generate::number(&mut case.random, table.users.into());
-        let permission = generate::number(&mut case.random, table.permissions.into());
-        let t = generate::table_minute(&mut case.random, table);
-        compare_question(case, tally, lent, user, permission, t);
-    }
-    let t = generate::table_minute(&mut case.random, table);
-    compare_holders(case, tally, lent, t);
-}
+type Lent = asked::Lent<Table>;
 
 /// The small rota's table, as its file holds it.
 fn small() -> Table {
@@ -176,80 +129,23 @@ fn limits() {
     tally.reached((0..=0).chain(21..=28));
 }
 
-/// Counts near 2^32 in short files, most with a size that is right in 32 bits.
 #[test]
 fn huge_counts_in_short_files() {
-    let mut tally = Tally::new("huge_counts_in_short_files");
-    cases("huge_counts_in_short_files", 20_000, |case| {
-        let table = generate::small_table(&mut case.random);
-        let mut bytes = table.encode();
-        if case.random.one_in(4) {
-            bytes.truncate(case.random.between(16, 60) as usize);
-        }
-        let (derived, rows) = (table.derived.len() as u64, table.rows.len() as u64);
-        let (derived, rows) = generate::huge_counts(&mut case.random, derived, rows);
-        bytes[8..12].copy_from_slice(&(derived as u32).to_le_bytes());
-        bytes[12..16].copy_from_slice(&(rows as u32).to_le_bytes());
-        let lent = Lent::new(bytes);
-        assert_eq!(lent.table, Err(25), "seed {} case {}", case.seed, case.number);
-        compare_all(case, &mut tally, &lent, &table, 1);
-    });
-    tally.reached([25]);
+    tallied("huge_counts_in_short_files", 20_000, table::huge_counts).reached([25]);
 }
 
-/// Tables that no rewriting makes: repeated entries, entries without rows, other numberings.
 #[test]
 fn tables_made_by_hand() {
-    let mut tally = Tally::new("tables_made_by_hand");
-    let (mut yes, mut no) = (0u64, 0u64);
-    cases("tables_made_by_hand", 20_000, |case| {
-        let table = match case.random.below(3) {
-            0 => generate::table(&mut case.random),
-            _ => generate::small_table(&mut case.random),
-        };
-        let lent = Lent::new(table.encode());
-        assert!(lent.table.is_ok(), "the builder makes only accepted tables");
-        compare_all(case, &mut tally, &lent, &table, 6);
-        // A question that is likely to be a yes: the numbers of a row's own entry.
-        if !table.rows.is_empty() {
-            let row = case.random.pick(&table.rows);
-            let entry = &table.derived[row.derived as usize];
-            let (user, permission) = (entry.users.trailing_zeros(), entry.permissions.ilog2());
-            for _ in 0..3 {
-                let t = generate::table_minute(&mut case.random, &table);
-                compare_question(case, &mut tally, &lent, user, permission, t);
-                match ffi::table::question(&lent.bytes, user, permission, t).yes {
-                    0 => no += 1,
-                    _ => yes += 1,
-                }
-            }
-        }
-    });
-    tally.reached([0, 33, 34, 35]);
-    tally.also(&[("yes", yes), ("no", no)]);
+    tallied("tables_made_by_hand", 20_000, table::by_hand)
+        .reached([0, 33, 34, 35])
+        .also(&["yes", "no"]);
 }
 
-/// The tables of random rotas.
 #[test]
 fn rewritten_tables() {
-    let mut tally = Tally::new("rewritten_tables");
-    cases("rewritten_tables", 5_000, |case| {
-        let rota = match case.random.below(10) {
-            0 => generate::rota(&mut case.random),
-            _ => generate::small_rota(&mut case.random),
-        };
-        let table = rewriting::table(&rota);
-        let lent = Lent::new(table.encode());
-        assert!(lent.table.is_ok());
-        compare_all(case, &mut tally, &lent, &table, 5);
-        for _ in 0..5 {
-            let t = generate::rota_minute(&mut case.random, &rota);
-            let user = generate::number(&mut case.random, rota.users.into());
-            let permission = generate::number(&mut case.random, rota.permissions.into());
-            compare_question(case, &mut tally, &lent, user, permission, t);
-        }
-    });
-    tally.reached([0, 33, 34, 35]);
+    tallied("rewritten_tables", 5_000, table::rewritten)
+        .reached([0, 33, 34, 35])
+        .also(&["yes", "no"]);
 }
 
 /// The tables of rotas at the limits; these have many thousand rows.
@@ -266,11 +162,11 @@ fn largest_rewritten_tables() {
             let t = generate::rota_minute(&mut case.random, &rota);
             let (user, permission) = (case.random.below(64), case.random.below(64));
             // Not through `same`: these bytes are too many to print.
-            let expected = expected::table::question(&lent.table, user, permission, t);
+            let expected = expected::table::question(&lent.parsed, user, permission, t);
             let proved = ffi::table::question(&lent.bytes, user, permission, t);
             tally.add(expected.refusal);
             assert_eq!(proved, expected, "seed {} case {number} minute {t}", case.seed);
-            let expected = expected::table::holders(&lent.table, t);
+            let expected = expected::table::holders(&lent.parsed, t);
             assert_eq!(ffi::table::holders(&lent.bytes, t), expected, "case {number} minute {t}");
         }
     }
@@ -337,7 +233,7 @@ fn every_length() {
         bytes.extend(extra);
         for len in 0..=bytes.len() {
             let lent = Lent::new(bytes[..len].to_vec());
-            assert_eq!(lent.table.is_ok(), len == whole);
+            assert_eq!(lent.parsed.is_ok(), len == whole);
             compare_all(case, &mut tally, &lent, &table, 1);
         }
     });
@@ -363,18 +259,8 @@ fn every_byte_changed() {
     tally.reached((0..=0).chain(22..=28));
 }
 
-/// Several faults at once, so that the order of refusals shows.
 #[test]
 fn several_faults() {
-    let mut tally = Tally::new("several_faults");
-    cases("several_faults", 50_000, |case| {
-        let table = match case.random.below(8) {
-            0 => generate::table(&mut case.random),
-            1 => rewriting::table(&generate::small_rota(&mut case.random)),
-            _ => generate::small_table(&mut case.random),
-        };
-        let bytes = generate::damaged_table(&mut case.random, &table);
-        compare_all(case, &mut tally, &Lent::new(bytes), &table, 1);
-    });
-    tally.reached((0..=0).chain(21..=28).chain([33, 34, 35]));
+    tallied("several_faults", 50_000, table::several_faults)
+        .reached((0..=0).chain(21..=28).chain([33, 34, 35]));
 }

@@ -143,9 +143,9 @@ impl<'a> Rota<'a> {
 
     /// The set of roles that are enabled.
     fn enabled(&self, held: Held) -> u32 {
-        (0..).zip(self.roles).fold(0, |roles, (role, &hours)| {
-            roles | u32::from(holds(held, hours)) << role //
-        })
+        (0..)
+            .zip(self.roles)
+            .fold(0, |roles, (role, &hours)| roles | u32::from(holds(held, hours)) << role)
     }
 }
 

@@ -1,0 +1,118 @@
+//! Rewriting: byte for byte, into areas of the table's size and of sizes around it.
+
+use cases::case::{Case, Tally};
+use cases::generate;
+use reference::Refusal;
+use reference::rewriting::eras;
+
+use super::rota::some_rota;
+use crate::expected::rewriting::{Whole, whole};
+use crate::{expected, ffi};
+
+/// A rota's bytes with the table that the reference makes of them, so that it makes it once.
+pub struct Lent {
+    pub bytes: Vec<u8>,
+    pub whole: Result<Whole, Refusal>,
+}
+
+impl Lent {
+    pub fn new(bytes: Vec<u8>) -> Lent {
+        let whole = whole(&bytes);
+        Lent { bytes, whole }
+    }
+
+    /// The table's size; 16 where there is none.
+    pub fn size(&self) -> usize {
+        self.whole.as_ref().map_or(16, |whole| whole.bytes.len())
+    }
+}
+
+/// Bytes kept before and after the area, which nobody may touch.
+const MARGIN: usize = 64;
+
+/// Rewrites into an area of that size, filled at random, inside more such bytes: compares the
+/// outcome and every byte, and has the proved reader read the table. The area begins at any
+/// place, so that numbers lie at odd ones too.
+pub fn compare(case: &mut Case, tally: &mut Tally, lent: &Lent, size: usize) -> u32 {
+    let from = MARGIN + case.random.below(8) as usize;
+    let area = from..from + size;
+    let filling = case.random.bytes((area.end + MARGIN).min(1 << 16));
+    let mut expected_memory: Vec<u8> =
+        filling.iter().copied().cycle().take(area.end + MARGIN).collect();
+    let mut memory = expected_memory.clone();
+
+    let expected = expected::rewriting::rewrite(&lent.whole, &mut expected_memory[area.clone()]);
+    let proved = ffi::rewriting::rewrite(&lent.bytes, &mut memory[area.clone()]);
+    tally.add(expected.refusal);
+    let what = ("rewrite", "area", size);
+    case.same(proved, expected, &lent.bytes, what);
+    if memory != expected_memory {
+        let differs = |i: &usize| memory[*i] != expected_memory[*i];
+        let at = (0..memory.len()).find(differs).expect("they differ");
+        // A byte's place is counted from the area's start; it may lie before it or past its end.
+        let place = at as i64 - from as i64;
+        case.same(memory[at], expected_memory[at], &lent.bytes, (what, "byte", place));
+    }
+    if expected.refusal == 0 {
+        let table = &memory[from..from + expected.length as usize];
+        let read = ffi::table::read(table);
+        let counts = (read.refusal, read.derived, read.rows);
+        case.same(counts, (0, expected.derived, expected.rows), &lent.bytes, "read the table");
+    }
+    expected.refusal
+}
+
+/// Areas of exactly the size, one byte less, one more, none, much larger, and one that is
+/// too small by any amount.
+pub fn compare_areas(case: &mut Case, tally: &mut Tally, lent: &Lent) {
+    if let Ok(whole) = &lent.whole {
+        tally.count_if(whole.rows == 0, "bare header");
+        tally.count_if(whole.rows > 0, "rows");
+        tally.count_if(whole.derived < whole.rows, "a derived role with several rows");
+    }
+    let size = lent.size();
+    let larger = size + case.random.between(2, 5_000) as usize;
+    let smaller = case.random.below(size as u32) as usize;
+    for size in [size, size - 1, size + 1, 0, larger, smaller] {
+        compare(case, tally, lent, size);
+    }
+}
+
+/// Rotas of all sizes up to the limits.
+pub fn any_size(case: &mut Case, tally: &mut Tally) {
+    let rota = match case.random.below(3) {
+        0 => generate::rota(&mut case.random),
+        _ => generate::granting_rota(&mut case.random),
+    };
+    compare_areas(case, tally, &Lent::new(rota.encode()));
+}
+
+/// Small rotas, where eras are often shorter than the cycle.
+pub fn small(case: &mut Case, tally: &mut Tally) {
+    let rota = generate::small_rota(&mut case.random);
+    let shorter = |&(begin, end): &(u32, u32)| end - begin < rota.cycle.into();
+    tally.count_if(eras(&rota).iter().any(shorter), "an era shorter than the cycle");
+    compare_areas(case, tally, &Lent::new(rota.encode()));
+}
+
+/// Hours that nothing refers to cut eras and cells as well.
+pub fn unused_hours(case: &mut Case, tally: &mut Tally) {
+    let rota = match case.random.below(4) {
+        0 => generate::granting_rota(&mut case.random),
+        _ => generate::small_rota(&mut case.random),
+    };
+    let with_unused = generate::with_unused_hours(&mut case.random, &rota);
+    let (before, lent) = (Lent::new(rota.encode()), Lent::new(with_unused.encode()));
+    tally.count_if(before.size() < lent.size(), "a table made longer");
+    compare_areas(case, tally, &lent);
+}
+
+/// The rota's refusals come before 20, and leave the area whole.
+pub fn damaged(case: &mut Case, tally: &mut Tally) {
+    let rota = some_rota(&mut case.random, 8);
+    let lent = Lent::new(generate::damaged_rota(&mut case.random, &rota));
+    let any = case.random.below(400) as usize;
+    for size in [0, lent.size(), any] {
+        compare(case, tally, &lent, size);
+    }
+}
