@@ -62,43 +62,103 @@ fn a_field_without_a_minute_is_not_kept() {
     compare_areas(&mut case, &mut tally, &Lent::new(rota.encode()));
 }
 
-/// Example 2 of document 003: five doctors have the role DayDoctor in the day time (9 to 21) of
-/// A: Sunday to Friday; B: Sunday, Tuesday; C: Sunday, Tuesday, Thursday, Friday;
-/// D: Sunday to Wednesday, Saturday; E: Thursday, Friday. Its minimal disjoint set is
-/// {Sun, Tue}, {Thu, Fri}, {Mon, Wed}, {Sat}. By Example 4 that makes 4 roles, where one for
-/// each assignment would make 5, and 10 assignments of doctors to them: 3, 1, 2, 3 and 1.
-/// Hours are half open here, so 21:00 itself is no longer day time.
-#[test]
-fn five_doctors() {
-    const DAYS: [&[u16]; 5] =
-        [&[0, 1, 2, 3, 4, 6], &[1, 6], &[1, 3, 4, 6], &[0, 1, 2, 5, 6], &[3, 4]];
-    let day_time = |days: &[u16]| -> Hours {
-        let pairs: Vec<_> = days.iter().map(|day| (1_440 * day + 9 * 60, 12 * 60)).collect();
+/// The days of Example 2 of document 003, in which the role DayDoctor is given to the doctors A to
+/// E, in the day time from 9 to 21; Monday is 0. There an interval may share an end point with the
+/// next; here hours are half open, so that at 21:00 itself it is no longer day time. The paper's
+/// week has no first and no last day; here it runs from minute 0 to E.
+const DAYS: [&[u16]; 5] = [&[0, 1, 2, 3, 4, 6], &[1, 6], &[1, 3, 4, 6], &[0, 1, 2, 5, 6], &[3, 4]];
+const DAY: u16 = 1_440;
+const DAY_TIME: (u16, u16) = (9 * 60, 12 * 60);
+
+/// The rota of the first so many doctors.
+fn doctors(count: u8) -> Rota {
+    let hours = DAYS[..count.into()].iter().map(|days| {
+        let pairs: Vec<_> = days.iter().map(|day| (DAY * day + DAY_TIME.0, DAY_TIME.1)).collect();
         Hours::new(0, END, &pairs)
-    };
-    let rota = Rota {
-        cycle: 10_080,
-        hours: DAYS.map(day_time).to_vec(),
-        users: 5,
+    });
+    Rota {
+        cycle: 7 * DAY,
+        hours: hours.collect(),
+        users: count,
         permissions: 1,
         roles: vec![HoursRef::Always],
-        user_rows: (0..5).map(|doctor| Row::new(doctor, 0, HoursRef::Numbered(doctor))).collect(),
+        user_rows: (0..count)
+            .map(|doctor| Row::new(doctor, 0, HoursRef::Numbered(doctor)))
+            .collect(),
         permission_rows: vec![Row::new(0, 0, HoursRef::Always)],
-    };
-    let table = table_of(&rota);
-    // By first row: Monday, Tuesday, Thursday, Saturday.
-    let users: Vec<u64> = table.derived.iter().map(|entry| entry.users).collect();
-    assert_eq!(users, [0b01001, 0b01111, 0b10101, 0b01000]);
-    assert_eq!(table.derived.len(), 4);
-    let assignments = |doctor: u32| users.iter().filter(|&&set| set >> doctor & 1 == 1).count();
-    assert_eq!([0, 1, 2, 3, 4].map(assignments), [3, 1, 2, 3, 1]);
-    let days: Vec<_> = table.rows.iter().map(|row| (row.derived, row.offset, row.length)).collect();
-    let of_day = [0, 1, 0, 2, 2, 3, 1];
-    let expected: Vec<_> = (0..7).map(|day| (of_day[day], 1_440 * day as u16 + 540, 720)).collect();
-    assert_eq!(days, expected);
-    let mut tally = Tally::new("five_doctors");
-    let mut case = Case::new("five_doctors", 0);
-    compare_areas(&mut case, &mut tally, &Lent::new(rota.encode()));
+    }
+}
+
+/// For each derived role its doctors and the days on which it is enabled, which is in the day time
+/// and throughout it.
+fn by_days(table: &Table) -> Vec<(u64, Vec<u16>)> {
+    let mut all: Vec<_> = table.derived.iter().map(|entry| (entry.users, Vec::new())).collect();
+    for row in &table.rows {
+        assert_eq!((row.begin, row.end), (0, END));
+        assert_eq!((row.offset % DAY, row.length), DAY_TIME);
+        all[row.derived as usize].1.push(row.offset / DAY);
+    }
+    all
+}
+
+/// Example 2 of document 003, step by step: the derived roles are enabled on the days of the
+/// minimal disjoint set of the first two doctors, of the first three, of four and of all. The
+/// paper lists each set by its own steps; here derived roles are numbered by first row.
+#[test]
+fn minimal_disjoint_sets_of_example_2() {
+    let steps: [(u8, &[&[u16]]); 4] = [
+        // {Mon, Wed, Thu, Fri}, {Sun, Tue}.
+        (2, &[&[0, 2, 3, 4], &[1, 6]]),
+        // {Mon, Wed}, {Sun, Tue}, {Thu, Fri}.
+        (3, &[&[0, 2], &[1, 6], &[3, 4]]),
+        // {Sat} comes with D, and E brings nothing new.
+        (4, &[&[0, 2], &[1, 6], &[3, 4], &[5]]),
+        (5, &[&[0, 2], &[1, 6], &[3, 4], &[5]]),
+    ];
+    let mut tally = Tally::new("minimal_disjoint_sets_of_example_2");
+    let mut case = Case::new("minimal_disjoint_sets_of_example_2", 0);
+    for (count, expected) in steps {
+        let rota = doctors(count);
+        let days: Vec<_> = by_days(&table_of(&rota)).into_iter().map(|(_, days)| days).collect();
+        assert_eq!(days, expected, "{count} doctors");
+        compare_areas(&mut case, &mut tally, &Lent::new(rota.encode()));
+    }
+    tally.reached([0, 20]);
+}
+
+/// Example 4 of document 003: five doctors, one role. Its second representation has 4 roles, one
+/// for each of the minimal disjoint set, and 10 assignments of doctors to them; the first has a
+/// role for each of the 5 assignments. Doctor C has the roles of {Sun, Tue} and {Thu, Fri}. The
+/// paper keeps the first role as a junior of the new ones; here they stand for it.
+#[test]
+fn roles_and_assignments_of_example_4() {
+    let derived = by_days(&table_of(&doctors(5)));
+    let expected = [
+        (0b01001, vec![0, 2]), // A and D
+        (0b01111, vec![1, 6]), // A, B, C and D
+        (0b10101, vec![3, 4]), // A, C and E
+        (0b01000, vec![5]),    // D
+    ];
+    assert_eq!(derived, expected);
+    let roles_of =
+        |doctor: usize| derived.iter().filter(|(users, _)| users >> doctor & 1 == 1).count();
+    let assignments = [0, 1, 2, 3, 4].map(roles_of);
+    assert_eq!(assignments, [3, 1, 2, 3, 1]);
+    assert_eq!((derived.len(), assignments.iter().sum::<usize>()), (4, 10));
+}
+
+/// Half open: a doctor may at 9:00 and no longer at 21:00, on the rota and on its table.
+#[test]
+fn day_time_is_half_open() {
+    let rota = doctors(5);
+    let (rota, table) = (rota.encode(), ffi::rewriting::table(&rota.encode()));
+    let monday = |minute: u32| 7 * u32::from(DAY) + minute;
+    let expected = [(8 * 60 + 59, 0), (9 * 60, 1), (20 * 60 + 59, 1), (21 * 60, 0)];
+    for (minute, yes) in expected {
+        let asked = ffi::rota::question(&rota, 0, 0, monday(minute));
+        assert_eq!((asked.refusal, asked.yes), (0, yes), "{minute}");
+        assert_eq!(ffi::table::question(&table, 0, 0, monday(minute)), asked);
+    }
 }
 
 /// Cycles of 1 and 40,320, hours up to E, one minute, the last one, 64 users and permissions.
