@@ -1,7 +1,7 @@
 //! The inputs: the small rota, a week as an organization has it, and the largest.
 
 use cases::data;
-use cases::generate::{Sets, fine_rota, rota_minute, weekly_rota};
+use cases::generate::{Sets, fine_rota, most_sets_rota, rota_minute, weekly_rota};
 use cases::random::Random;
 use comparison::ffi;
 use reference::rota::Rota;
@@ -89,7 +89,7 @@ pub fn inputs() -> Vec<Input> {
         // All counts of these two rotas are at their limits: no rota is longer, no table of one
         // has more rows.
         Input::new("most rows", fine_rota(&mut random, 32, 8, 32, Sets::Same)),
-        Input::new("most rows, many sets", fine_rota(&mut random, 32, 8, 32, Sets::Many)),
+        Input::new("most rows, most sets", most_sets_rota(&mut random)),
         Input::of_table("derived roles alone", &entries_alone(), |random| random.below(END)),
     ]
 }

@@ -52,6 +52,12 @@ pub fn fine_rota(random: &mut Random, hours: u32, pairs: u32, roles: u32, sets: 
             pair.length = (i * cell) as u16 - pair.offset;
         }
     }
+    with_roles(all_hours, roles, sets)
+}
+
+/// A rota of these hours, with roles that are always enabled and keep every field.
+fn with_roles(hours: Vec<Hours>, roles: u32, sets: Sets) -> Rota {
+    let count = hours.len() as u32;
     // Each role has its share of the rows, the first of them always.
     let rows = |from: u32| -> Vec<Row> {
         let share = (LIMITS.user_rows / roles).min(16);
@@ -59,19 +65,73 @@ pub fn fine_rota(random: &mut Random, hours: u32, pairs: u32, roles: u32, sets: 
             number: (4 * i + role % 4) as u8,
             role: role as u8,
             hours: match sets {
-                Sets::Many if i > 0 => HoursRef::Numbered(((from + i) % hours) as u8),
+                Sets::Many if i > 0 => HoursRef::Numbered(((from + i) % count) as u8),
                 _ => HoursRef::Always,
             },
         };
         (0..roles).flat_map(|role| (0..share).map(move |i| row(role, i))).collect()
     };
     Rota {
-        cycle,
-        hours: all_hours,
+        cycle: LIMITS.cycle,
+        hours,
         users: LIMITS.users as u8,
         permissions: LIMITS.permissions as u8,
         roles: vec![HoursRef::Always; roles as usize],
         user_rows: rows(0),
         permission_rows: rows(16),
     }
+}
+
+/// The numbers below `count` in an order that is theirs but for a disturbance.
+fn disturbed(random: &mut Random, count: u32, by: u32) -> Vec<u32> {
+    let mut numbers: Vec<(u32, u32)> = (0..count).map(|i| (i + random.below(by), i)).collect();
+    numbers.sort();
+    numbers.into_iter().map(|(_, i)| i).collect()
+}
+
+/// Everything at its limit, and more derived roles than by equal shares: the hours that last
+/// longest have most of the pairs, and each holds for most of the cycle, so that the sets of two
+/// neighbouring eras or cells seldom agree.
+pub fn most_sets_rota(random: &mut Random) -> Rota {
+    /// Pairs of each record, from the hours that last longest; 256 in all.
+    const PAIRS: [u32; 32] = [
+        37, 37, 30, 25, 21, 17, 14, 12, 10, 8, 7, 5, 5, 4, 3, 3, //
+        2, 2, 1, 1, 1, 1, 1, 1, 1, 1, 1, 1, 1, 1, 1, 1,
+    ];
+    const TURN: u32 = 1 << 20;
+    let era = END / (2 * LIMITS.hours + 1);
+    let cell = u32::from(LIMITS.cycle) / (2 * LIMITS.pairs + 1);
+    // No row names hours 0 and 16, so these are the shortest.
+    let mut numbers: Vec<usize> = (0..32).filter(|number| number % 16 != 0).collect();
+    numbers.extend([0, 16]);
+    let mut all_hours = vec![Hours { begin: 0, end: 0, pairs: Vec::new() }; 32];
+    for (i, rank) in (1..).zip(disturbed(random, LIMITS.hours, 30)) {
+        all_hours[numbers[rank as usize]].begin = i * era;
+    }
+    for (i, rank) in (1 + LIMITS.hours..).zip(disturbed(random, LIMITS.hours, 6)) {
+        all_hours[numbers[31 - rank as usize]].end = i * era;
+    }
+    // The pairs of one record come at even distances, a little disturbed, and hold for three
+    // quarters of them. All edges in their order are the edges of the cells.
+    let mut edges = Vec::new();
+    for (&pairs, &number) in PAIRS.iter().zip(&numbers) {
+        let slot = TURN / pairs;
+        let first = random.below(slot / 4);
+        for i in 0..pairs {
+            for edge in [i * slot + first, i * slot + first + slot * 3 / 4] {
+                edges.push((edge + random.below(slot / 5), number));
+            }
+        }
+    }
+    edges.sort();
+    let mut is_open = [false; 32];
+    for (i, (_, number)) in (1..).zip(edges) {
+        let (edge, pairs) = ((i * cell) as u16, &mut all_hours[number].pairs);
+        match pairs.last_mut() {
+            Some(pair) if is_open[number] => pair.length = edge - pair.offset,
+            _ => pairs.push(Pair { offset: edge, length: 0 }),
+        }
+        is_open[number] = !is_open[number];
+    }
+    with_roles(all_hours, LIMITS.roles, Sets::Many)
 }

@@ -9,7 +9,7 @@ mod table;
 mod weekly;
 
 pub use calls::{Edges, call, state};
-pub use fine::{Sets, fine_rota};
+pub use fine::{Sets, fine_rota, most_sets_rota};
 pub use hours::{hours, hours_fault, room};
 pub use rota::{
     EDGE_SIZES, LIMITS, Sizes, damaged_rota, edge_sizes, granting_rota, rota, rota_minute, rota_of,
