@@ -11,12 +11,12 @@ const PAIR_LIMIT: usize = 256;
 
 /// The hours that hold: bit h for the record h, and bit 63 for always. A reference is below 32
 /// or 255, so its low six bits find the right one.
-pub type Held = u64;
-pub const ALWAYS: Held = 1 << 63;
+type Held = u64;
+const ALWAYS: Held = 1 << 63;
 
 /// Whether the hours that a byte refers to hold.
 #[inline]
-pub fn holds(held: Held, reference: u8) -> bool {
+fn holds(held: Held, reference: u8) -> bool {
     held >> (reference & 63) & 1 != 0
 }
 
