@@ -1,4 +1,4 @@
-//! The long run: all comparisons of random inputs that the tests make, with as many cases as are
+//! The long run: the tests' comparisons of one random input each, with as many cases as are
 //! wished. It ends with how many there were of each kind, how often each refusal was reached, and
 //! how many cases disagreed.
 //!
