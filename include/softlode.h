@@ -1,7 +1,8 @@
 /*
  * Softlode: proved access hours. The C interface of the proved library.
  *
- * Link target/staticlib/libinterface.a, which `rt staticlib interface` proves and writes (x86-64, System V calls). It needs no other library.
+ * Link target/staticlib/libinterface.a, which `rt staticlib interface` proves and writes (x86-64, System V calls). Of other libraries it needs
+ * memset alone.
  *
  * What holds of every function here:
  *
@@ -15,27 +16,22 @@
  *   caller that no library can see.
  * - Lent memory must not overlap: the bytes, the output area and the service record are three different pieces of memory, and nobody else
  *   writes them during the call. Bytes that are only read may be shared by any number of calls at the same time.
- * - Calls on different records (and on different output areas) may run at the same time, on any threads. There is no global state.
- * - Stack: softlode_rewrite takes less than 1 MiB (see docs/PERFORMANCE.md); every other call less than 4 KiB.
+ * - Calls on different records (and on different output areas) may run at the same time, on any threads. There is no global state. Calls on
+ *   one record come one after the other, asks too: an ask leaves the record's values, but may store them again.
+ * - Stack: softlode_rewrite takes less than 1 MiB, whatever the rota; every other call less than 4 KiB.
  * - Every number that is passed has at least 32 bits, so that 256 is refused and never wraps to 0.
  *
  * Minutes count from 0, which is 00:00 on Monday 1 January 2001, to 210379679, in 31 December 2400. Volunteers, rights and roles are
  * numbered from 0. Bit i of a set stands for number i.
  *
- * Refusals, by operation, in the order in which they are looked for:
+ * Refusals, by operation, in the order in which they are looked for; softlode_meaning says what each number means:
  *
- *   reading a rota     1 shorter than its header; 2 another format; 3 a cycle that is not 1 to 40320 minutes; 4 a count over its limit;
- *                      then each hours record: 5 cut off; 6 begin not before end, or end past 2400; 7 no pair, or more than 256 pairs in
- *                      all; 8 a pair that is empty, past the cycle, or not later than the one before; then 9 the rest is too long or too
- *                      short; 10 a role, 11 a volunteer row, 12 a right row names something that is not there
- *   rewriting          those of a rota; 20 the output area is too small for the table
- *   reading a table    21 shorter than its header; 22 another format; 23 cycle; 24 a count over its limit; 25 length; 26 a derived role;
- *                      27 a row; 28 a row that does not follow the one before
- *   a question         those of the bytes; 33 a minute past the last; 34 no such volunteer; 35 no such right
- *   a service call     those of the bytes; 40 a record that does not fit; then
- *                      advance 33, 41 the minute is before now; open 34, 42 already open, 43 holds no right now; close 34, 44 not open;
- *                      ask 34, 35, 44
- *   the calendar       33 a minute past the last; 50 a date or time that does not exist or is not in 2001 to 2400
+ *   reading a rota     1, 2, 3, 4; then each hours record in turn 5 (its first 10 bytes), 6, 7, 5 (its pairs), 8; then 9, 10, 11, 12
+ *   rewriting          those of a rota, then 20
+ *   reading a table    21, 22, 23, 24, 25; then each derived role in turn 26; then each row in turn 27, 28
+ *   a question         those of the bytes, then 33, 34, 35
+ *   a service call     those of the bytes, then 40; then advance 33, 41; open 34, 42, 43; close 34, 44; ask 34, 35, 44
+ *   the calendar       33 for a minute; 50 for a date and time
  */
 #ifndef SOFTLODE_H
 #define SOFTLODE_H
@@ -86,8 +82,9 @@ typedef struct softlode_told {
 } softlode_told;
 
 /*
- * The service record. The host keeps one, starts it as { 0, 0 }, and lends it to each call: no call needs another. Its fields may be read,
- * stored and restored at any time between calls; a record that does not fit the lent bytes is refusal 40.
+ * The service record. The host keeps one, starts it as { 0, 0 }, and lends it to each call: no call needs another. Its two fields may be
+ * read, stored and restored at any time between calls (the bytes between them mean nothing); a record that does not fit the lent bytes is
+ * refusal 40.
  */
 typedef struct softlode_service {
     uint32_t now;         /* a minute */
@@ -105,6 +102,7 @@ typedef struct softlode_date_time {
     uint32_t minute;      /* 0 to 59 */
 } softlode_date_time;
 
+/* The minute of a date and time. */
 typedef struct softlode_minute_number {
     uint32_t refusal;
     uint32_t minute;
@@ -122,29 +120,68 @@ softlode_told softlode_table_question(const uint8_t *table, size_t length, uint3
 
 /*
  * Rewrites a rota to its table, at the start of the output area. Bytes of the area past the table's length stay as they are. 1 to 12, or 20
- * where 16 + 17 * derived + 16 * rows exceeds the size of the area; then the whole area stays as it is.
+ * where 16 + 17 * derived + 16 * rows exceeds the size of the area; then the whole area stays as it is. 35212336 bytes are enough for every
+ * rota (32 roles, 65 eras and 513 cells at the most), and 65536 for most.
  */
 softlode_written softlode_rewrite(const uint8_t *rota, size_t length, uint8_t *area, size_t size);
 
-/* Moves now to the minute, and closes the sessions of those who hold no right then: `value` counts them. 40; 33; 41. */
+/* Moves now to the minute, and closes the sessions of those who hold no right then: `value` counts them. After the bytes' refusals: 40; 33; 41. */
 softlode_told softlode_rota_advance(softlode_service *service, const uint8_t *rota, size_t length, uint32_t minute);
 softlode_told softlode_table_advance(softlode_service *service, const uint8_t *table, size_t length, uint32_t minute);
 
-/* Opens a session for a volunteer who holds a right now. 40; 34; 42; 43. */
+/* Opens a session for a volunteer who holds a right now. After the bytes' refusals: 40; 34; 42; 43. */
 softlode_told softlode_rota_open(softlode_service *service, const uint8_t *rota, size_t length, uint32_t volunteer);
 softlode_told softlode_table_open(softlode_service *service, const uint8_t *table, size_t length, uint32_t volunteer);
 
-/* Closes a volunteer's session. 40; 34; 44. */
+/* Closes a volunteer's session. After the bytes' refusals: 40; 34; 44. */
 softlode_told softlode_rota_close(softlode_service *service, const uint8_t *rota, size_t length, uint32_t volunteer);
 softlode_told softlode_table_close(softlode_service *service, const uint8_t *table, size_t length, uint32_t volunteer);
 
-/* May the volunteer, whose session is open, use the right now? 40; 34; 35; 44. The record stays as it is. */
+/* May the volunteer, whose session is open, use the right now? After the bytes' refusals: 40; 34; 35; 44. The record stays as it is. */
 softlode_told softlode_rota_ask(softlode_service *service, const uint8_t *rota, size_t length, uint32_t volunteer, uint32_t right);
 softlode_told softlode_table_ask(softlode_service *service, const uint8_t *table, size_t length, uint32_t volunteer, uint32_t right);
 
 /* A minute as a date and time of day, or 33; and back from these without the weekday, or 50. */
 softlode_date_time softlode_date(uint32_t minute);
 softlode_minute_number softlode_minute(uint32_t year, uint32_t month, uint32_t day, uint32_t hour, uint32_t minute);
+
+/* What a refusal's number means, in a line, and "" for 0. It is not part of the library. */
+static inline const char *softlode_meaning(uint32_t refusal) {
+    switch (refusal) {
+    case 0: return "";
+    case 1: return "the rota is shorter than its header";
+    case 2: return "this is not a rota of format 1";
+    case 3: return "the rota's cycle is not 1 to 40320 minutes";
+    case 4: return "a count of the rota is over its limit";
+    case 5: return "an hours record is cut off";
+    case 6: return "an hours record does not begin before it ends, or ends past 2400";
+    case 7: return "an hours record has no pair, or there are more than 256 in all";
+    case 8: return "a pair is empty, goes past the cycle, or does not start later than the end of the pair before it";
+    case 9: return "the rota is longer or shorter than its counts say";
+    case 10: return "a role names hours that are not there";
+    case 11: return "a volunteer row names a volunteer, role or hours that are not there";
+    case 12: return "a right row names a right, role or hours that are not there";
+    case 20: return "the area is too small for the table";
+    case 21: return "the table is shorter than its header";
+    case 22: return "this is not a table of format 2";
+    case 23: return "the table's cycle is not 1 to 40320 minutes";
+    case 24: return "a count of the table is over its limit";
+    case 25: return "the table is longer or shorter than its counts say";
+    case 26: return "a derived role has a source out of range or order, or a set that is empty or out of range";
+    case 27: return "a row of the table has a derived role, begin, end, offset or length out of range";
+    case 28: return "a row of the table does not follow the row before it";
+    case 33: return "the minute is past 2400";
+    case 34: return "there is no such volunteer";
+    case 35: return "there is no such right";
+    case 40: return "the service record does not fit: its minute is past 2400, or someone open is no such volunteer";
+    case 41: return "the minute is before now";
+    case 42: return "the volunteer's session is open already";
+    case 43: return "the volunteer holds no right now";
+    case 44: return "the volunteer's session is not open";
+    case 50: return "the date or time does not exist or is not in 2001 to 2400";
+    default: return "a number that this version does not know";
+    }
+}
 
 #ifdef __cplusplus
 }
