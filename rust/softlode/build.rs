@@ -1,0 +1,6 @@
+#[path = "../archives.rs"]
+mod archives;
+
+fn main() {
+    archives::link(&["interface"]);
+}

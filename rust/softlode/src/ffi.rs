@@ -1,0 +1,198 @@
+//! The functions of include/softlode.h in safe forms. Nothing else in this crate is unsafe.
+//!
+//! What the safety comments rest on, all of it promised by the header: the functions take any
+//! bytes and any numbers; they read within the length of what is lent, write only within an
+//! output area and to a service record, and keep no pointer. A reference to lend is valid, and an
+//! exclusive one overlaps nothing else.
+
+#![allow(unsafe_code)]
+
+use crate::{DateTime, Lent, Refusal, RotaCounts, Service, TableCounts};
+
+/// What a function tells: the number of a refusal, or 0 and values. All fields of the values are
+/// `u32`, so that they lie as in the flat struct of the header.
+#[repr(C)]
+pub struct Told<T> {
+    refusal: u32,
+    values: T,
+}
+
+impl<T> Told<T> {
+    pub fn values(self) -> Result<T, Refusal> {
+        Refusal::judge(self.refusal).map(|()| self.values)
+    }
+}
+
+/// The values of a question, and of a call of the service.
+#[repr(C)]
+pub struct Answer {
+    yes: u32,
+    value: u32,
+}
+
+impl Told<Answer> {
+    /// A question: the role of a yes.
+    pub fn role(self) -> Result<Option<u32>, Refusal> {
+        self.values().map(|answer| (answer.yes != 0).then_some(answer.value))
+    }
+
+    /// An advance: how many sessions it closed.
+    pub fn count(self) -> Result<u32, Refusal> {
+        self.values().map(|answer| answer.value)
+    }
+
+    /// A call that gives nothing.
+    pub fn done(self) -> Result<(), Refusal> {
+        self.values().map(|_| ())
+    }
+}
+
+/// Its length has 64 bits, so it lies flat.
+#[repr(C)]
+pub struct WrittenTold {
+    pub refusal: u32,
+    pub derived: u32,
+    pub rows: u32,
+    pub length: u64,
+}
+
+type Question = unsafe extern "C" fn(*const u8, usize, u32, u32, u32) -> Told<Answer>;
+type Call = unsafe extern "C" fn(*mut Service, *const u8, usize, u32) -> Told<Answer>;
+type Ask = unsafe extern "C" fn(*mut Service, *const u8, usize, u32, u32) -> Told<Answer>;
+
+#[rustfmt::skip]
+unsafe extern "C" {
+    fn softlode_rota_read(rota: *const u8, length: usize) -> Told<RotaCounts>;
+    fn softlode_table_read(table: *const u8, length: usize) -> Told<TableCounts>;
+    fn softlode_rota_question(rota: *const u8, length: usize, volunteer: u32, right: u32, minute: u32) -> Told<Answer>;
+    fn softlode_table_question(table: *const u8, length: usize, volunteer: u32, right: u32, minute: u32) -> Told<Answer>;
+    fn softlode_rewrite(rota: *const u8, length: usize, area: *mut u8, size: usize) -> WrittenTold;
+    fn softlode_rota_advance(service: *mut Service, rota: *const u8, length: usize, minute: u32) -> Told<Answer>;
+    fn softlode_table_advance(service: *mut Service, table: *const u8, length: usize, minute: u32) -> Told<Answer>;
+    fn softlode_rota_open(service: *mut Service, rota: *const u8, length: usize, volunteer: u32) -> Told<Answer>;
+    fn softlode_table_open(service: *mut Service, table: *const u8, length: usize, volunteer: u32) -> Told<Answer>;
+    fn softlode_rota_close(service: *mut Service, rota: *const u8, length: usize, volunteer: u32) -> Told<Answer>;
+    fn softlode_table_close(service: *mut Service, table: *const u8, length: usize, volunteer: u32) -> Told<Answer>;
+    fn softlode_rota_ask(service: *mut Service, rota: *const u8, length: usize, volunteer: u32, right: u32) -> Told<Answer>;
+    fn softlode_table_ask(service: *mut Service, table: *const u8, length: usize, volunteer: u32, right: u32) -> Told<Answer>;
+    safe fn softlode_date(minute: u32) -> Told<DateTime>;
+    safe fn softlode_minute(year: u32, month: u32, day: u32, hour: u32, minute: u32) -> Told<u32>;
+}
+
+pub fn rota_read(rota: &[u8]) -> Told<RotaCounts> {
+    // SAFETY: the bytes are lent for the time of the call.
+    unsafe { softlode_rota_read(rota.as_ptr(), rota.len()) }
+}
+
+pub fn table_read(table: &[u8]) -> Told<TableCounts> {
+    // SAFETY: the bytes are lent for the time of the call.
+    unsafe { softlode_table_read(table.as_ptr(), table.len()) }
+}
+
+pub fn rewrite(rota: &[u8], area: &mut [u8]) -> WrittenTold {
+    // SAFETY: the bytes and the area are lent for the time of the call, the area exclusively.
+    unsafe { softlode_rewrite(rota.as_ptr(), rota.len(), area.as_mut_ptr(), area.len()) }
+}
+
+/// The one of two functions that is for what is lent, and the bytes.
+fn choose<'a, F>(lent: Lent<'a>, for_rota: F, for_table: F) -> (F, &'a [u8]) {
+    match lent {
+        Lent::Rota(bytes) => (for_rota, bytes),
+        Lent::Table(bytes) => (for_table, bytes),
+    }
+}
+
+pub fn question(lent: Lent, volunteer: u32, right: u32, minute: u32) -> Told<Answer> {
+    let (function, bytes) =
+        choose::<Question>(lent, softlode_rota_question, softlode_table_question);
+    // SAFETY: the bytes are lent for the time of the call.
+    unsafe { function(bytes.as_ptr(), bytes.len(), volunteer, right, minute) }
+}
+
+fn call(service: &mut Service, lent: Lent, rota: Call, table: Call, number: u32) -> Told<Answer> {
+    let (function, bytes) = choose(lent, rota, table);
+    // SAFETY: the bytes and the record are lent for the time of the call, the record exclusively;
+    // a `Call` is one of the functions above.
+    unsafe { function(service, bytes.as_ptr(), bytes.len(), number) }
+}
+
+pub fn advance(service: &mut Service, lent: Lent, minute: u32) -> Told<Answer> {
+    call(service, lent, softlode_rota_advance, softlode_table_advance, minute)
+}
+
+pub fn open(service: &mut Service, lent: Lent, volunteer: u32) -> Told<Answer> {
+    call(service, lent, softlode_rota_open, softlode_table_open, volunteer)
+}
+
+pub fn close(service: &mut Service, lent: Lent, volunteer: u32) -> Told<Answer> {
+    call(service, lent, softlode_rota_close, softlode_table_close, volunteer)
+}
+
+pub fn ask(service: &mut Service, lent: Lent, volunteer: u32, right: u32) -> Told<Answer> {
+    let (function, bytes) = choose::<Ask>(lent, softlode_rota_ask, softlode_table_ask);
+    // SAFETY: the bytes and the record are lent for the time of the call, the record exclusively.
+    unsafe { function(service, bytes.as_ptr(), bytes.len(), volunteer, right) }
+}
+
+pub fn date(minute: u32) -> Told<DateTime> {
+    softlode_date(minute)
+}
+
+pub fn minute(year: u32, month: u32, day: u32, hour: u32, minute: u32) -> Told<u32> {
+    softlode_minute(year, month, day, hour, minute)
+}
+
+#[cfg(test)]
+mod tests {
+    use super::*;
+    use std::mem::{align_of, offset_of, size_of};
+    use std::ptr::{null, null_mut};
+
+    /// hosts/host.c asserts the same numbers of the header's structs.
+    #[test]
+    fn layouts() {
+        assert_eq!(size_of::<Told<RotaCounts>>(), 32);
+        assert_eq!(size_of::<Told<TableCounts>>(), 28);
+        assert_eq!(size_of::<Told<Answer>>(), 12);
+        assert_eq!(size_of::<Told<DateTime>>(), 28);
+        assert_eq!(size_of::<Told<u32>>(), 8);
+        assert_eq!(offset_of!(Told<Answer>, values), 4);
+        assert_eq!((size_of::<WrittenTold>(), offset_of!(WrittenTold, length)), (24, 16));
+        assert_eq!((size_of::<Service>(), offset_of!(Service, open)), (16, 8));
+        assert_eq!(align_of::<Service>(), 8);
+    }
+
+    /// A null pointer with length 0 is an empty input, or an area of no bytes.
+    #[test]
+    fn null_with_length_0() {
+        let small = include_bytes!("../../../data/small.rota");
+        let mut service = Service { now: 3, open: 1 };
+        let told = |told: Told<Answer>| told.done().map_err(Refusal::number);
+        // SAFETY: no byte is lent but those of `small` and the record.
+        unsafe {
+            assert_eq!(softlode_rota_read(null(), 0).refusal, 1);
+            assert_eq!(softlode_table_read(null(), 0).refusal, 21);
+            assert_eq!(softlode_rewrite(null(), 0, null_mut(), 0).refusal, 1);
+            assert_eq!(softlode_rewrite(small.as_ptr(), small.len(), null_mut(), 0).refusal, 20);
+            for question in [softlode_rota_question as Question, softlode_table_question] {
+                assert!(matches!(told(question(null(), 0, 0, 0, 0)), Err(1 | 21)));
+            }
+            for ask in [softlode_rota_ask as Ask, softlode_table_ask] {
+                assert!(matches!(told(ask(&mut service, null(), 0, 0, 0)), Err(1 | 21)));
+            }
+            let calls: [Call; 6] = [
+                softlode_rota_advance,
+                softlode_rota_open,
+                softlode_rota_close,
+                softlode_table_advance,
+                softlode_table_open,
+                softlode_table_close,
+            ];
+            for (i, call) in calls.into_iter().enumerate() {
+                let expected = if i < 3 { 1 } else { 21 };
+                assert_eq!(told(call(&mut service, null(), 0, 0)), Err(expected));
+            }
+        }
+        assert_eq!(service, Service { now: 3, open: 1 });
+    }
+}

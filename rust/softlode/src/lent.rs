@@ -1,0 +1,219 @@
+//! What is lent to a call: the bytes of a rota or of a table.
+
+use crate::{Refusal, ffi};
+
+/// The bytes of a rota or of a table, lent to a call. Which they are is the caller's word, not
+/// seen in the bytes; each call judges them anew, so any bytes may be lent.
+///
+/// A [`Rota`] or a [`Table`] turns into it by itself.
+#[derive(Clone, Copy, Debug, PartialEq, Eq)]
+pub enum Lent<'a> {
+    /// The bytes of a rota.
+    Rota(&'a [u8]),
+    /// Exactly the bytes of a table, not the whole area that it was written to.
+    Table(&'a [u8]),
+}
+
+impl Lent<'_> {
+    /// May the volunteer use the right at the minute? The lowest role through which, or `None`
+    /// for no; or the refusals of the bytes, 33, 34, 35.
+    ///
+    /// ```
+    /// use softlode::{Lent, Refusal};
+    ///
+    /// let rota = Lent::Rota(include_bytes!("../../../data/small.rota"));
+    /// assert_eq!(rota.may(0, 0, 3), Ok(Some(0)));
+    /// assert_eq!(rota.may(0, 0, 4), Ok(None));
+    /// assert_eq!(Lent::Table(b"").may(0, 0, 4), Err(Refusal::TABLE_SHORT));
+    /// ```
+    pub fn may(self, volunteer: u32, right: u32, minute: u32) -> Result<Option<u32>, Refusal> {
+        ffi::question(self, volunteer, right, minute).role()
+    }
+}
+
+/// The counts of a rota's header.
+#[repr(C)]
+#[derive(Clone, Copy, Debug, PartialEq, Eq)]
+pub struct RotaCounts {
+    /// Minutes, 1 to 40,320.
+    pub cycle: u32,
+    /// Hours records.
+    pub hours: u32,
+    /// They are numbered from 0.
+    pub volunteers: u32,
+    /// They are numbered from 0.
+    pub rights: u32,
+    /// They are numbered from 0.
+    pub roles: u32,
+    /// Rows that join a volunteer with a role.
+    pub volunteer_rows: u32,
+    /// Rows that join a right with a role.
+    pub right_rows: u32,
+}
+
+/// The counts of a table's header.
+#[repr(C)]
+#[derive(Clone, Copy, Debug, PartialEq, Eq)]
+pub struct TableCounts {
+    /// Minutes, 1 to 40,320.
+    pub cycle: u32,
+    /// They are numbered from 0.
+    pub volunteers: u32,
+    /// They are numbered from 0.
+    pub rights: u32,
+    /// Roles of the rota.
+    pub roles: u32,
+    /// Derived roles.
+    pub derived: u32,
+    /// Rows, each of which enables a derived role.
+    pub rows: u32,
+}
+
+/// A rota that was accepted, in the bytes of its file.
+///
+/// ```
+/// use softlode::{Refusal, Rota, Table};
+///
+/// let file = std::fs::read("../../data/small.rota")?;
+/// let rota = Rota::read(&file)?;
+/// assert_eq!((rota.counts().volunteers, rota.counts().rights), (2, 1));
+/// // May volunteer 1 use right 0 at minute 12, and at minute 37?
+/// assert_eq!(rota.may(1, 0, 12)?, Some(0));
+/// assert_eq!(rota.may(1, 0, 37)?, None);
+///
+/// let mut area = [0; 1024];
+/// let written = rota.rewrite(&mut area)?;
+/// assert_eq!((written.derived, written.rows, written.bytes.len()), (3, 12, 259));
+/// let table = Table::read(written.bytes)?;
+/// assert_eq!(table.may(1, 0, 12)?, Some(0));
+/// # Ok::<(), Box<dyn std::error::Error>>(())
+/// ```
+#[derive(Clone, Copy, Debug, PartialEq, Eq)]
+pub struct Rota<'a> {
+    bytes: &'a [u8],
+    counts: RotaCounts,
+}
+
+impl<'a> Rota<'a> {
+    /// Reads a rota, or 1 to 12.
+    ///
+    /// ```
+    /// use softlode::{Refusal, Rota};
+    ///
+    /// let file = include_bytes!("../../../data/small.rota");
+    /// assert!(Rota::read(file).is_ok());
+    /// assert_eq!(Rota::read(&file[..53]), Err(Refusal::LENGTH));
+    /// ```
+    pub fn read(bytes: &'a [u8]) -> Result<Rota<'a>, Refusal> {
+        let counts = ffi::rota_read(bytes).values()?;
+        Ok(Rota { bytes, counts })
+    }
+
+    /// The bytes that were read.
+    pub fn bytes(&self) -> &'a [u8] {
+        self.bytes
+    }
+
+    /// The counts of the header.
+    pub fn counts(&self) -> RotaCounts {
+        self.counts
+    }
+
+    /// May the volunteer use the right at the minute? The lowest role through which, or `None`
+    /// for no; or 33, 34, 35.
+    pub fn may(&self, volunteer: u32, right: u32, minute: u32) -> Result<Option<u32>, Refusal> {
+        Lent::from(self).may(volunteer, right, minute)
+    }
+
+    /// Rewrites the rota to its table, at the start of the area; the bytes past it stay. Or 20,
+    /// where the area is too small, and then all of it stays. Takes less than 1 MiB of stack.
+    ///
+    /// No table has more than 35,212,336 bytes, and most have some thousands; a host that knows
+    /// no better lets the area grow:
+    ///
+    /// ```
+    /// # use softlode::{Refusal, Rota};
+    /// # let rota = Rota::read(include_bytes!("../../../data/small.rota"))?;
+    /// let mut area = vec![0; 64];
+    /// let length = loop {
+    ///     match rota.rewrite(&mut area) {
+    ///         Ok(written) => break written.bytes.len(),
+    ///         Err(Refusal::AREA) => area.resize(2 * area.len(), 0),
+    ///         Err(refusal) => return Err(refusal),
+    ///     }
+    /// };
+    /// assert_eq!((length, area.len()), (259, 512));
+    /// # Ok::<(), Refusal>(())
+    /// ```
+    pub fn rewrite<'b>(&self, area: &'b mut [u8]) -> Result<Written<'b>, Refusal> {
+        let told = ffi::rewrite(self.bytes, area);
+        Refusal::judge(told.refusal)?;
+        // The table is within the area.
+        let bytes = &area[..told.length as usize];
+        Ok(Written { derived: told.derived, rows: told.rows, bytes })
+    }
+}
+
+/// A table that was written.
+#[derive(Clone, Copy, Debug, PartialEq, Eq)]
+pub struct Written<'a> {
+    /// Derived roles.
+    pub derived: u32,
+    /// Rows.
+    pub rows: u32,
+    /// The bytes of the table: the part of the area that was written.
+    pub bytes: &'a [u8],
+}
+
+/// A table that was accepted, in its bytes.
+///
+/// ```
+/// use softlode::{Refusal, Table};
+///
+/// let file = include_bytes!("../../../data/small.table");
+/// let table = Table::read(file)?;
+/// assert_eq!((table.counts().derived, table.counts().rows), (3, 12));
+/// assert_eq!(table.may(0, 0, 3), Ok(Some(0)));
+/// assert_eq!(table.may(256, 0, 3), Err(Refusal::VOLUNTEER));
+/// # Ok::<(), Refusal>(())
+/// ```
+#[derive(Clone, Copy, Debug, PartialEq, Eq)]
+pub struct Table<'a> {
+    bytes: &'a [u8],
+    counts: TableCounts,
+}
+
+impl<'a> Table<'a> {
+    /// Reads a table, or 21 to 28. Lend exactly its bytes, not the area that it was written to.
+    pub fn read(bytes: &'a [u8]) -> Result<Table<'a>, Refusal> {
+        let counts = ffi::table_read(bytes).values()?;
+        Ok(Table { bytes, counts })
+    }
+
+    /// The bytes that were read.
+    pub fn bytes(&self) -> &'a [u8] {
+        self.bytes
+    }
+
+    /// The counts of the header.
+    pub fn counts(&self) -> TableCounts {
+        self.counts
+    }
+
+    /// As [`Rota::may`].
+    pub fn may(&self, volunteer: u32, right: u32, minute: u32) -> Result<Option<u32>, Refusal> {
+        Lent::from(self).may(volunteer, right, minute)
+    }
+}
+
+impl<'a> From<&Rota<'a>> for Lent<'a> {
+    fn from(rota: &Rota<'a>) -> Lent<'a> {
+        Lent::Rota(rota.bytes)
+    }
+}
+
+impl<'a> From<&Table<'a>> for Lent<'a> {
+    fn from(table: &Table<'a>) -> Lent<'a> {
+        Lent::Table(table.bytes)
+    }
+}

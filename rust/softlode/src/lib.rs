@@ -1,0 +1,33 @@
+//! Softlode: proved access hours of an archive's volunteers, for hosts in Rust.
+//!
+//! A safe face of the proved library's C interface. Any bytes and any numbers end in an answer or
+//! in one [`Refusal`]; nothing panics, nothing is kept between calls, and calls on different
+//! records may run at the same time. Every call judges the bytes that are lent to it anew.
+//!
+//! ```
+//! use softlode::{Refusal, Rota, Service, Table, date, minute};
+//!
+//! let rota = Rota::read(include_bytes!("../../../data/week.rota"))?;
+//! let mut area = [0; 65_536];
+//! let table = Table::read(rota.rewrite(&mut area)?.bytes)?;
+//!
+//! let mut service = Service::fresh();
+//! service.advance(&table, minute(2024, 2, 26, 9, 0)?)?;
+//! service.open(&table, 0)?;
+//! assert_eq!(service.ask(&table, 0, 0)?, Some(0));
+//! assert_eq!(date(service.now)?.to_string(), "Mon 2024-02-26 09:00");
+//! # Ok::<(), Refusal>(())
+//! ```
+
+#![deny(missing_docs, unsafe_code, unsafe_op_in_unsafe_fn, warnings)]
+
+mod calendar;
+mod ffi;
+mod lent;
+mod refusal;
+mod service;
+
+pub use calendar::{DateTime, LAST_MINUTE, date, minute};
+pub use lent::{Lent, Rota, RotaCounts, Table, TableCounts, Written};
+pub use refusal::Refusal;
+pub use service::Service;

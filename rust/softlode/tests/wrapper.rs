@@ -1,0 +1,186 @@
+//! The wrapper's own promises. What the calls answer is compared in `comparison`.
+
+use std::collections::HashSet;
+use std::thread;
+
+use softlode::{LAST_MINUTE, Lent, Refusal, Rota, Service, Table, date, minute};
+
+const SMALL: &[u8] = include_bytes!("../../../data/small.rota");
+const SMALL_TABLE: &[u8] = include_bytes!("../../../data/small.table");
+const WEEK: &[u8] = include_bytes!("../../../data/week.rota");
+const WEEK_TABLE: &[u8] = include_bytes!("../../../data/week.table");
+const AREA_SIZE: usize = 65_536;
+
+/// Numbers that would be small if they were cut to 8, 16 or fewer bits.
+const TOO_HIGH: [u32; 7] = [64, 255, 256, 512, 65_536, 1 << 31, u32::MAX];
+
+#[test]
+fn every_refusal_has_a_text_of_its_own() {
+    let numbers: Vec<u32> = Refusal::ALL.iter().map(|refusal| refusal.number()).collect();
+    let expected: Vec<u32> =
+        (1..=12).chain(20..=28).chain(33..=35).chain(40..=44).chain([50]).collect();
+    assert_eq!(numbers, expected);
+    let texts: HashSet<&str> = Refusal::ALL.iter().map(|refusal| refusal.meaning()).collect();
+    assert_eq!(texts.len(), numbers.len());
+    for refusal in Refusal::ALL {
+        let line = refusal.to_string();
+        assert_eq!(line, format!("refused {}: {}", refusal.number(), refusal.meaning()));
+        assert!(line.len() <= 120 && !line.contains('\n'), "{line}");
+    }
+    let error: Box<dyn std::error::Error> = Refusal::DATE.into();
+    assert!(error.to_string().starts_with("refused 50: the date"));
+}
+
+#[test]
+fn no_bytes() {
+    assert_eq!(Rota::read(&[]), Err(Refusal::SHORT));
+    assert_eq!(Table::read(&[]), Err(Refusal::TABLE_SHORT));
+    assert_eq!(Rota::read(SMALL).unwrap().rewrite(&mut []), Err(Refusal::AREA));
+    for (lent, refusal) in
+        [(Lent::Rota(&[]), Refusal::SHORT), (Lent::Table(&[]), Refusal::TABLE_SHORT)]
+    {
+        let mut service = Service { now: 3, open: 1 };
+        assert_eq!(lent.may(0, 0, 0), Err(refusal));
+        assert_eq!(service.advance(lent, 4), Err(refusal));
+        assert_eq!(service.open(lent, 1), Err(refusal));
+        assert_eq!(service.close(lent, 0), Err(refusal));
+        assert_eq!(service.ask(lent, 0, 0), Err(refusal));
+        assert_eq!(service, Service { now: 3, open: 1 });
+    }
+}
+
+#[test]
+fn numbers_do_not_wrap() {
+    for lent in [Lent::Rota(SMALL), Lent::Table(SMALL_TABLE)] {
+        let mut service = Service::fresh();
+        service.open(lent, 0).unwrap();
+        let before = service;
+        for number in TOO_HIGH {
+            assert_eq!(lent.may(number, 0, 3), Err(Refusal::VOLUNTEER));
+            assert_eq!(lent.may(0, number, 3), Err(Refusal::RIGHT));
+            assert_eq!(service.open(lent, number), Err(Refusal::VOLUNTEER));
+            assert_eq!(service.close(lent, number), Err(Refusal::VOLUNTEER));
+            assert_eq!(service.ask(lent, number, 0), Err(Refusal::VOLUNTEER));
+            assert_eq!(service.ask(lent, 0, number), Err(Refusal::RIGHT));
+            assert!(!service.is_open(number));
+            assert_eq!(minute(2001, number, 1, 0, 0), Err(Refusal::DATE));
+            assert_eq!(minute(2001, 1, 1, number, 0), Err(Refusal::DATE));
+        }
+        for minute in [LAST_MINUTE + 1, 1 << 31, u32::MAX] {
+            assert_eq!(lent.may(0, 0, minute), Err(Refusal::MINUTE));
+            assert_eq!(service.advance(lent, minute), Err(Refusal::MINUTE));
+            assert_eq!(date(minute), Err(Refusal::MINUTE));
+        }
+        assert_eq!(service, before);
+    }
+}
+
+#[test]
+fn a_refused_call_leaves_the_record() {
+    for lent in [Lent::Rota(SMALL), Lent::Table(SMALL_TABLE)] {
+        let given = Service { now: 3, open: 1 };
+        let mut service = given;
+        assert_eq!(service.advance(lent, 2), Err(Refusal::BEFORE_NOW));
+        assert_eq!(service.open(lent, 0), Err(Refusal::ALREADY_OPEN));
+        assert_eq!(service.open(lent, 1), Err(Refusal::NO_RIGHT_NOW));
+        assert_eq!(service.close(lent, 1), Err(Refusal::NOT_OPEN));
+        assert_eq!(service.ask(lent, 1, 0), Err(Refusal::NOT_OPEN));
+        assert_eq!(service, given);
+        for odd in [Service { now: 3, open: 4 }, Service { now: u32::MAX, open: 0 }] {
+            let mut service = odd;
+            assert_eq!(service.advance(lent, 5), Err(Refusal::RECORD));
+            assert_eq!(service.open(lent, 0), Err(Refusal::RECORD));
+            assert_eq!(service.close(lent, 0), Err(Refusal::RECORD));
+            assert_eq!(service.ask(lent, 0, 0), Err(Refusal::RECORD));
+            assert_eq!(service, odd);
+        }
+    }
+}
+
+#[test]
+fn a_refused_rewriting_leaves_the_area() {
+    let rota = Rota::read(SMALL).unwrap();
+    let mut area = [0xa5; 258];
+    assert_eq!(rota.rewrite(&mut area), Err(Refusal::AREA));
+    assert_eq!(area, [0xa5; 258]);
+    let mut area = [0xa5; 260];
+    assert_eq!(rota.rewrite(&mut area).unwrap().bytes, SMALL_TABLE);
+    assert_eq!(area[259], 0xa5);
+    assert_eq!(Table::read(&area), Err(Refusal::TABLE_LENGTH), "not the whole area");
+}
+
+/// A week of the service, hour by hour: what every call told, and the record that it left.
+fn week(lent: Lent) -> Vec<(Result<u32, Refusal>, Service)> {
+    let mut service = Service::fresh();
+    let mut told = Vec::new();
+    let monday = minute(2024, 2, 26, 0, 0).unwrap();
+    for hour in 0..7 * 24 {
+        told.push((service.advance(lent, monday + 60 * hour), service));
+        for volunteer in 0..20 {
+            told.push((service.open(lent, volunteer).map(|()| 0), service));
+            let role = service.ask(lent, volunteer, volunteer % 10);
+            told.push((role.map(|role| role.unwrap_or(99)), service));
+        }
+    }
+    told
+}
+
+#[test]
+fn two_threads_at_once() {
+    let alone = week(Lent::Rota(WEEK));
+    assert!(alone.iter().any(|(told, _)| *told == Ok(4)), "somebody discards");
+    for _ in 0..10 {
+        thread::scope(|scope| {
+            let threads = [Lent::Rota(WEEK), Lent::Rota(WEEK), Lent::Table(WEEK_TABLE)]
+                .map(|lent| scope.spawn(move || week(lent)));
+            for thread in threads {
+                assert_eq!(thread.join().unwrap(), alone);
+            }
+        });
+    }
+}
+
+/// Runs on a thread with this much stack, or the least that there is. A thread that overflows it
+/// ends the whole test program.
+fn with_stack<T: Send>(size: usize, run: impl FnOnce() -> T + Send) -> T {
+    thread::scope(|scope| {
+        let builder = thread::Builder::new().stack_size(size);
+        builder.spawn_scoped(scope, run).expect("a thread").join().expect("no panic")
+    })
+}
+
+/// A rewriting takes less than 1 MiB of stack; the rest is for the thread itself.
+#[test]
+fn stack_of_a_rewriting() {
+    let mut area = vec![0; AREA_SIZE];
+    for (rota, table) in [(SMALL, SMALL_TABLE), (WEEK, WEEK_TABLE)] {
+        let written = with_stack((1 << 20) + (16 << 10), || {
+            Rota::read(rota).unwrap().rewrite(&mut area).unwrap().bytes.to_vec()
+        });
+        assert_eq!(written, table);
+    }
+}
+
+/// Every other call takes less than 4 KiB, so it runs on the smallest stack.
+#[test]
+fn stack_of_every_other_call() {
+    let told = with_stack(1, || {
+        let rota = Rota::read(WEEK).map(|rota| rota.counts().volunteers);
+        let table = Table::read(WEEK_TABLE).map(|table| table.counts().rows);
+        let monday = minute(2024, 2, 26, 9, 0).unwrap();
+        let weekday = date(monday).map(|date| date.weekday);
+        let mut told = vec![rota, table, weekday];
+        for lent in [Lent::Rota(WEEK), Lent::Table(WEEK_TABLE)] {
+            let mut service = Service::fresh();
+            told.push(lent.may(0, 9, monday).map(|role| role.unwrap_or(99)));
+            told.push(service.advance(lent, monday));
+            told.push(service.open(lent, 0).map(|()| 0));
+            told.push(service.ask(lent, 0, 9).map(|role| role.unwrap_or(99)));
+            told.push(service.close(lent, 0).map(|()| 0));
+        }
+        told
+    });
+    let calls = [5, 0, 0, 5, 0].map(Ok);
+    assert_eq!(told[..3], [Ok(20), Ok(293), Ok(0)]);
+    assert_eq!((&told[3..8], &told[8..]), (&calls[..], &calls[..]));
+}
