@@ -1,0 +1,224 @@
+//! A host of the library, as a server would be one; hosts/host.c does the same in C, and
+//! data/week.host is what both print for data/week.rota.
+//!
+//!     host ROTA
+
+#![deny(warnings)]
+
+use std::fmt::{Display, Write};
+use std::io::Write as _;
+use std::process::ExitCode;
+
+use softlode::{Lent, Refusal, Rota, Service, Table, date, minute};
+
+const HOUR: u32 = 60;
+const DAY: u32 = 24 * HOUR;
+
+/// The two services, what they have been doing, and the text of it.
+struct Host<'a> {
+    rota: Rota<'a>,
+    table: Table<'a>,
+    /// With the rota.
+    service: Service,
+    /// With the table.
+    mirror: Service,
+    advances: u32,
+    closed: u32,
+    opens: u32,
+    closes: u32,
+    yes: u32,
+    no: u32,
+    refused: u32,
+    text: String,
+}
+
+/// Adds a line; a string takes every line.
+macro_rules! say {
+    ($text:expr, $($words:tt)*) => {
+        writeln!($text, $($words)*).expect("a string grows")
+    };
+}
+
+fn agreed<T: PartialEq>(a: T, b: T) -> T {
+    if a != b {
+        eprintln!("host: the rota and the table disagree");
+        std::process::exit(1);
+    }
+    a
+}
+
+impl Host<'_> {
+    /// A call of both services, which must tell and leave the same.
+    fn call<T: PartialEq>(
+        &mut self,
+        call: impl Fn(&mut Service, Lent) -> Result<T, Refusal>,
+    ) -> Result<T, Refusal> {
+        let told = call(&mut self.service, Lent::from(&self.rota));
+        let mirrored = call(&mut self.mirror, Lent::from(&self.table));
+        agreed(self.service, self.mirror);
+        agreed(told, mirrored)
+    }
+
+    /// An hour begins: whoever holds a right now comes, and asks for every right; even numbers
+    /// leave at noon.
+    fn spend_hour(&mut self, minute: u32) -> Result<(), Refusal> {
+        let counts = self.rota.counts();
+        let closed = self.call(|service, lent| service.advance(lent, minute))?;
+        let now = date(minute)?;
+        self.advances += 1;
+        self.closed += closed;
+        if closed > 0 {
+            say!(self.text, "{now} {closed} closed by the hour, open {:016x}", self.service.open);
+        }
+        for volunteer in 0..counts.volunteers {
+            if self.service.is_open(volunteer) {
+                continue;
+            }
+            if self.call(|service, lent| service.open(lent, volunteer)).is_err() {
+                self.refused += 1;
+                continue;
+            }
+            self.opens += 1;
+            let mut rights = String::new();
+            for right in 0..counts.rights {
+                match self.call(|service, lent| service.ask(lent, volunteer, right))? {
+                    Some(role) => {
+                        self.yes += 1;
+                        rights += &format!(" {right} by {role}");
+                    }
+                    None => self.no += 1,
+                }
+            }
+            say!(self.text, "{now} volunteer {volunteer} opens; right by role:{rights}");
+        }
+        if now.hour == 12 {
+            for volunteer in (0..counts.volunteers).step_by(2) {
+                if self.call(|service, lent| service.close(lent, volunteer)).is_err() {
+                    self.refused += 1;
+                    continue;
+                }
+                self.closes += 1;
+                say!(self.text, "{now} volunteer {volunteer} closes");
+            }
+        }
+        Ok(())
+    }
+
+    /// Who may use each right at a minute, by questions without a service.
+    fn show_board(&mut self, minute: u32) -> Result<(), Refusal> {
+        let (counts, now) = (self.rota.counts(), date(minute)?);
+        for right in 0..counts.rights {
+            let mut volunteers = String::new();
+            for volunteer in 0..counts.volunteers {
+                let (rota, table) = (&self.rota, &self.table);
+                let told = rota.may(volunteer, right, minute);
+                if agreed(told, table.may(volunteer, right, minute))?.is_some() {
+                    volunteers += &format!(" {volunteer}");
+                }
+            }
+            say!(self.text, "{now} right {right} may be used by{volunteers}");
+        }
+        Ok(())
+    }
+
+    fn show_refusal<T>(&mut self, what: &str, given: Result<T, Refusal>) {
+        let told: &dyn Display = match &given {
+            Ok(_) => &"accepted",
+            Err(refusal) => refusal,
+        };
+        say!(self.text, "{what}: {told}");
+    }
+
+    /// Damaged bytes and wrong numbers: each is one refusal, and leaves the record.
+    fn show_refusals(&mut self) {
+        let (rota, table) = (self.rota.bytes(), self.table.bytes());
+        let mut other = rota.to_vec();
+        other[0] ^= 0xff;
+        self.show_refusal("the rota without its last byte", Rota::read(&rota[..rota.len() - 1]));
+        self.show_refusal("the rota with another first byte", Rota::read(&other));
+        self.show_refusal("an area of 8 bytes", self.rota.rewrite(&mut [0; 8]));
+        let short = &table[..table.len() - 1];
+        self.show_refusal("the table without its last byte", Table::read(short));
+        let told = self.call(|service, lent| service.open(lent, 256));
+        self.show_refusal("an open of volunteer 256", told);
+        let told = self.call(|service, lent| service.advance(lent, 0));
+        self.show_refusal("an advance to minute 0", told);
+        self.show_refusal("29 February 2023", minute(2023, 2, 29, 0, 0));
+    }
+}
+
+/// All that the host prints for a rota.
+fn week(file: &[u8]) -> Result<String, Refusal> {
+    let rota = Rota::read(file)?;
+    let mut area = [0; 65_536];
+    let written = rota.rewrite(&mut area)?;
+    let counts = rota.counts();
+    let mut host = Host {
+        rota,
+        table: Table::read(written.bytes)?,
+        service: Service::fresh(),
+        mirror: Service::fresh(),
+        advances: 0,
+        closed: 0,
+        opens: 0,
+        closes: 0,
+        yes: 0,
+        no: 0,
+        refused: 0,
+        text: String::new(),
+    };
+    say!(
+        host.text,
+        "rota: cycle {}, {} hours, {} volunteers, {} rights, {} roles, {} + {} rows",
+        counts.cycle,
+        counts.hours,
+        counts.volunteers,
+        counts.rights,
+        counts.roles,
+        counts.volunteer_rows,
+        counts.right_rows
+    );
+    let (derived, rows, length) = (written.derived, written.rows, written.bytes.len());
+    say!(host.text, "table: {derived} derived roles, {rows} rows, {length} bytes");
+
+    let monday = minute(2024, 2, 26, 0, 0)?;
+    for hour in 0..7 * 24 {
+        host.spend_hour(monday + HOUR * hour)?;
+    }
+    host.show_board(monday + 2 * DAY + 11 * HOUR)?;
+    host.show_refusals();
+    let Host { service, advances, closed, opens, closes, yes, no, refused, mut text, .. } = host;
+    say!(
+        text,
+        "{advances} advances closed {closed}; {opens} opens, {closes} closes, {yes} yes, {no} no, \
+         {refused} refused; at {} open {:016x}",
+        date(service.now)?,
+        service.open
+    );
+    say!(text, "the rota and the table agree");
+    Ok(text)
+}
+
+/// A line on standard error, and status 2.
+fn fail(what: impl Display) -> ExitCode {
+    eprintln!("host: {what}");
+    ExitCode::from(2)
+}
+
+fn main() -> ExitCode {
+    let arguments: Vec<_> = std::env::args_os().skip(1).collect();
+    let [name] = arguments.as_slice() else {
+        return fail("usage: host ROTA");
+    };
+    let Ok(file) = std::fs::read(name) else {
+        return fail(format_args!("cannot read {}", name.display()));
+    };
+    let (text, status) = match week(&file) {
+        Ok(text) => (text, ExitCode::SUCCESS),
+        Err(refusal) => (format!("{refusal}\n"), ExitCode::FAILURE),
+    };
+    if std::io::stdout().write_all(text.as_bytes()).is_err() {
+        return fail("cannot write");
+    }
+    status
+}
