@@ -1,0 +1,165 @@
+//! The header, the proved crate behind it and this wrapper declare the same functions and fields,
+//! and the header and the wrapper say the same of each refusal. Read from their texts.
+
+use softlode::Refusal;
+
+const HEADER: &str = include_str!("../../../include/softlode.h");
+const INTERFACE: &str = include_str!("../../../crates/interface/src/lib.rt");
+const SERVICE: &str = include_str!("../../../crates/service/src/lib.rt");
+const WRAPPER: &str = concat!(
+    include_str!("../src/ffi.rs"),
+    include_str!("../src/lent.rs"),
+    include_str!("../src/service.rs"),
+    include_str!("../src/calendar.rs"),
+);
+
+/// The structs as the header, the proved crates and the wrapper name them.
+const STRUCTS: [[&str; 3]; 7] = [
+    ["softlode_rota", "RotaTold", "Told<RotaCounts>"],
+    ["softlode_table", "TableTold", "Told<TableCounts>"],
+    ["softlode_written", "WrittenTold", "WrittenTold"],
+    ["softlode_told", "Told", "Told<Answer>"],
+    ["softlode_service", "Service", "Service"],
+    ["softlode_date_time", "DateTold", "Told<DateTime>"],
+    ["softlode_minute_number", "MinuteTold", "Told<u32>"],
+];
+
+/// What stands between the first `start` and the next `end` after it.
+fn between<'a>(text: &'a str, start: &str, end: &str) -> &'a str {
+    let (_, rest) = text.split_once(start).unwrap_or_else(|| panic!("no {start}"));
+    rest.split_once(end).unwrap_or_else(|| panic!("no {end} after {start}")).0
+}
+
+/// The fields of a struct of the header, as `name: type`.
+fn c_fields(name: &str) -> Vec<String> {
+    between(HEADER, &format!("typedef struct {name} {{"), "}")
+        .lines()
+        .filter_map(|line| line.split_once(';'))
+        .map(|(field, _)| {
+            let (kind, name) = field.trim().split_once(' ').expect("a type and a name");
+            format!("{name}: {}", kind.replace("int", "").replace("_t", ""))
+        })
+        .collect()
+}
+
+/// The fields of a struct of Rust or of Rattle, in the header's words.
+fn rust_fields(text: &str, name: &str) -> Vec<String> {
+    between(text, &format!("struct {name} {{"), "}")
+        .lines()
+        .map(|line| line.trim().trim_start_matches("pub ").trim_end_matches(','))
+        .filter(|line| !line.is_empty() && !line.starts_with("//"))
+        .map(|line| line.replace("user", "volunteer").replace("permission", "right"))
+        .collect()
+}
+
+#[test]
+fn the_same_fields() {
+    for [c, proved, wrapped] in STRUCTS {
+        let expected = c_fields(c);
+        let text = if proved == "Service" { SERVICE } else { INTERFACE };
+        assert_eq!(rust_fields(text, proved), expected, "{c}");
+        let found = match wrapped.strip_prefix("Told<").and_then(|rest| rest.strip_suffix('>')) {
+            Some("u32") => vec!["refusal: u32".into(), "minute: u32".into()],
+            Some(values) => [vec!["refusal: u32".into()], rust_fields(WRAPPER, values)].concat(),
+            None => rust_fields(WRAPPER, wrapped),
+        };
+        assert_eq!(found, expected, "{c}");
+    }
+}
+
+/// A function's name, its parameters as C passes them, and which of the structs it gives.
+type Function = (String, String, usize);
+
+/// `kinds` says how a text names the types of parameters, `column` how it names the structs.
+fn function<'a>(
+    name: &str,
+    parameters: impl Iterator<Item = &'a str>,
+    gives: &str,
+    kinds: &[(&str, &str)],
+    column: usize,
+) -> Function {
+    let passed = parameters.map(|parameter| {
+        let known = kinds.iter().find(|(kind, _)| *kind == parameter);
+        known.unwrap_or_else(|| panic!("{name}: {parameter}")).1
+    });
+    let gives = STRUCTS.iter().position(|names| names[column] == gives);
+    let gives = gives.unwrap_or_else(|| panic!("{name} gives another"));
+    (name.into(), passed.collect::<Vec<_>>().join(" "), gives)
+}
+
+/// The functions of a text of Rust or of Rattle.
+fn rust_functions(text: &str, kinds: &[(&str, &str)], column: usize) -> Vec<Function> {
+    let mut found: Vec<_> = text
+        .split("fn softlode_")
+        .skip(1)
+        .map(|rest| {
+            let (name, rest) = rest.split_once('(').expect("parameters");
+            let (parameters, rest) = rest.split_once(')').expect("their end");
+            let parameters =
+                parameters.split(',').filter_map(|one| Some(one.split_once(": ")?.1.trim()));
+            let gives = rest.lines().next().expect("a line").trim_end_matches(';');
+            let gives = gives.trim_start_matches(" -> ");
+            function(name, parameters, gives, kinds, column)
+        })
+        .collect();
+    found.sort();
+    found
+}
+
+/// The functions of the header, each on a line of its own.
+fn c_functions() -> Vec<Function> {
+    let kinds = [
+        ("const uint8_t *", "bytes"),
+        ("uint8_t *", "area"),
+        ("softlode_service *", "record"),
+        ("size_t ", "size"),
+        ("uint32_t ", "number"),
+    ];
+    let mut found: Vec<_> = HEADER
+        .lines()
+        .filter(|line| line.starts_with("softlode_"))
+        .map(|line| {
+            let (gives, rest) = line.split_once(" softlode_").expect("a type and a name");
+            let (name, rest) = rest.split_once('(').expect("parameters");
+            let parameters = rest.trim_end_matches(");").split(", ").map(|one| {
+                let name = one.rfind(|c: char| !c.is_ascii_lowercase()).expect("a type") + 1;
+                &one[..name]
+            });
+            function(name, parameters, gives, &kinds, 0)
+        })
+        .collect();
+    found.sort();
+    found
+}
+
+#[test]
+fn the_same_functions() {
+    let expected = c_functions();
+    assert_eq!(expected.len(), 15);
+    let kinds = [
+        ("&[u8]", "bytes size"),
+        ("&mut [u8]", "area size"),
+        ("&mut Service", "record"),
+        ("u32", "number"),
+    ];
+    assert_eq!(rust_functions(INTERFACE, &kinds, 1), expected);
+    let kinds = [
+        ("*const u8", "bytes"),
+        ("*mut u8", "area"),
+        ("*mut Service", "record"),
+        ("usize", "size"),
+        ("u32", "number"),
+    ];
+    assert_eq!(rust_functions(WRAPPER, &kinds, 2), expected);
+}
+
+#[test]
+fn the_same_meanings() {
+    let said: Vec<(u32, &str)> = HEADER
+        .lines()
+        .filter_map(|line| line.trim().strip_prefix("case ")?.split_once(": return "))
+        .map(|(number, text)| (number.parse().expect("a number"), text.trim_matches([';', '"'])))
+        .collect();
+    let expected = Refusal::ALL.iter().map(|refusal| (refusal.number(), refusal.meaning()));
+    assert_eq!(said, [(0, "")].into_iter().chain(expected).collect::<Vec<_>>());
+}
