@@ -14,7 +14,7 @@
 //! let mut service = Service::fresh();
 //! service.advance(&table, minute(2024, 2, 26, 9, 0)?)?;
 //! service.open(&table, 0)?;
-//! assert_eq!(service.ask(&table, 0, 0)?, Some(0));
+//! assert_eq!(service.ask(&table, 0, 4)?, Some(2));
 //! assert_eq!(date(service.now)?.to_string(), "Mon 2024-02-26 09:00");
 //! # Ok::<(), Refusal>(())
 //! ```

@@ -69,7 +69,8 @@ impl Service {
         volunteer: u32,
         right: u32,
     ) -> Result<Option<u32>, Refusal> {
-        // The function takes a record that it may write, though it writes the same: lend a copy.
-        ffi::ask(&mut self.clone(), lent.into(), volunteer, right).role()
+        // The function takes a record that it may write, though it writes the same.
+        let mut copy = *self;
+        ffi::ask(&mut copy, lent.into(), volunteer, right).role()
     }
 }

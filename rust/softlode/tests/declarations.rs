@@ -1,5 +1,6 @@
 //! The header, the proved crate behind it and this wrapper declare the same functions and fields,
-//! and the header and the wrapper say the same of each refusal. Read from their texts.
+//! and the header and the wrapper say the same of each refusal. Read from their texts. The README's
+//! example in Rust is the crate's first, which runs as a test.
 
 use softlode::Refusal;
 
@@ -162,4 +163,16 @@ fn the_same_meanings() {
         .collect();
     let expected = Refusal::ALL.iter().map(|refusal| (refusal.number(), refusal.meaning()));
     assert_eq!(said, [(0, "")].into_iter().chain(expected).collect::<Vec<_>>());
+}
+
+#[test]
+fn the_example_of_the_readme() {
+    let readme = between(include_str!("../../../README.md"), "```rust\n", "```");
+    let example: String = between(include_str!("../src/lib.rs"), "//! ```\n", "//! ```\n")
+        .lines()
+        .map(|line| line.trim_start_matches("//!").trim_start())
+        .filter(|line| !line.starts_with("# "))
+        .map(|line| format!("{line}\n"))
+        .collect();
+    assert_eq!(readme, example);
 }
