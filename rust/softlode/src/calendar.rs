@@ -42,7 +42,7 @@ impl fmt::Display for DateTime {
 ///
 /// assert_eq!(date(1_661_760)?.to_string(), "Sun 2004-02-29 00:00");
 /// assert_eq!(date(LAST_MINUTE)?.to_string(), "Sun 2400-12-31 23:59");
-/// assert_eq!(date(LAST_MINUTE + 1), Err(Refusal::MINUTE));
+/// assert_eq!(date(LAST_MINUTE + 1), Err(Refusal::NO_SUCH_MINUTE));
 /// # Ok::<(), Refusal>(())
 /// ```
 pub fn date(minute: u32) -> Result<DateTime, Refusal> {
@@ -55,7 +55,7 @@ pub fn date(minute: u32) -> Result<DateTime, Refusal> {
 /// use softlode::{Refusal, minute};
 ///
 /// assert_eq!(minute(2004, 2, 29, 0, 0), Ok(1_661_760));
-/// assert_eq!(minute(2005, 2, 29, 0, 0), Err(Refusal::DATE));
+/// assert_eq!(minute(2005, 2, 29, 0, 0), Err(Refusal::NO_SUCH_DATE));
 /// ```
 pub fn minute(year: u32, month: u32, day: u32, hour: u32, minute: u32) -> Result<u32, Refusal> {
     ffi::minute(year, month, day, hour, minute).values()

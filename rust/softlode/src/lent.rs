@@ -102,7 +102,7 @@ impl<'a> Rota<'a> {
     ///
     /// let file = include_bytes!("../../../data/small.rota");
     /// assert!(Rota::read(file).is_ok());
-    /// assert_eq!(Rota::read(&file[..53]), Err(Refusal::LENGTH));
+    /// assert_eq!(Rota::read(&file[..53]), Err(Refusal::ROTA_LENGTH));
     /// ```
     pub fn read(bytes: &'a [u8]) -> Result<Rota<'a>, Refusal> {
         let counts = ffi::rota_read(bytes).values()?;
@@ -138,7 +138,7 @@ impl<'a> Rota<'a> {
     /// let length = loop {
     ///     match rota.rewrite(&mut area) {
     ///         Ok(written) => break written.bytes.len(),
-    ///         Err(Refusal::AREA) => area.resize(2 * area.len(), 0),
+    ///         Err(Refusal::AREA_TOO_SMALL) => area.resize(2 * area.len(), 0),
     ///         Err(refusal) => return Err(refusal),
     ///     }
     /// };
@@ -174,7 +174,7 @@ pub struct Written<'a> {
 /// let table = Table::read(file)?;
 /// assert_eq!((table.counts().derived, table.counts().rows), (3, 12));
 /// assert_eq!(table.may(0, 0, 3), Ok(Some(0)));
-/// assert_eq!(table.may(256, 0, 3), Err(Refusal::VOLUNTEER));
+/// assert_eq!(table.may(256, 0, 3), Err(Refusal::NO_SUCH_VOLUNTEER));
 /// # Ok::<(), Refusal>(())
 /// ```
 #[derive(Clone, Copy, Debug, PartialEq, Eq)]

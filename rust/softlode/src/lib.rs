@@ -19,7 +19,9 @@
 //! # Ok::<(), Refusal>(())
 //! ```
 
-#![deny(missing_docs, unsafe_code, unsafe_op_in_unsafe_fn, warnings)]
+#![deny(missing_docs, unsafe_code, unsafe_op_in_unsafe_fn)]
+// For the tests alone: a later compiler's warnings are no reason to stop a host.
+#![cfg_attr(test, deny(warnings))]
 
 mod calendar;
 mod ffi;

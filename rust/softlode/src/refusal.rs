@@ -9,7 +9,7 @@ use std::fmt;
 /// use softlode::{Refusal, Rota};
 ///
 /// let refusal = Rota::read(b"not a rota").unwrap_err();
-/// assert_eq!(refusal, Refusal::SHORT);
+/// assert_eq!(refusal, Refusal::ROTA_SHORT);
 /// assert_eq!(refusal.number(), 1);
 /// assert_eq!(refusal.to_string(), "refused 1: the rota is shorter than its header");
 /// ```
@@ -60,19 +60,19 @@ macro_rules! refusals {
 }
 
 refusals! {
-    SHORT = 1: "the rota is shorter than its header";
-    FORMAT = 2: "this is not a rota of format 1";
-    CYCLE = 3: "the rota's cycle is not 1 to 40320 minutes";
-    COUNTS = 4: "a count of the rota is over its limit";
+    ROTA_SHORT = 1: "the rota is shorter than its header";
+    ROTA_FORMAT = 2: "this is not a rota of format 1";
+    ROTA_CYCLE = 3: "the rota's cycle is not 1 to 40320 minutes";
+    ROTA_COUNTS = 4: "a count of the rota is over its limit";
     HOURS_CUT = 5: "an hours record is cut off";
     HOURS_SPAN = 6: "an hours record does not begin before it ends, or ends past 2400";
     HOURS_PAIRS = 7: "an hours record has no pair, or there are more than 256 in all";
     HOURS_PAIR = 8: "a pair is empty, goes past the cycle, or does not start later than the end of the pair before it";
-    LENGTH = 9: "the rota is longer or shorter than its counts say";
-    ROLE = 10: "a role names hours that are not there";
+    ROTA_LENGTH = 9: "the rota is longer or shorter than its counts say";
+    ROLE_HOURS = 10: "a role names hours that are not there";
     VOLUNTEER_ROW = 11: "a volunteer row names a volunteer, role or hours that are not there";
     RIGHT_ROW = 12: "a right row names a right, role or hours that are not there";
-    AREA = 20: "the area is too small for the table";
+    AREA_TOO_SMALL = 20: "the area is too small for the table";
     TABLE_SHORT = 21: "the table is shorter than its header";
     TABLE_FORMAT = 22: "this is not a table of format 2";
     TABLE_CYCLE = 23: "the table's cycle is not 1 to 40320 minutes";
@@ -81,13 +81,13 @@ refusals! {
     TABLE_ENTRY = 26: "a derived role has a source out of range or order, or a set that is empty or out of range";
     TABLE_ROW = 27: "a row of the table has a derived role, begin, end, offset or length out of range";
     TABLE_ORDER = 28: "a row of the table does not follow the row before it";
-    MINUTE = 33: "the minute is past 2400";
-    VOLUNTEER = 34: "there is no such volunteer";
-    RIGHT = 35: "there is no such right";
-    RECORD = 40: "the service record does not fit: its minute is past 2400, or someone open is no such volunteer";
+    NO_SUCH_MINUTE = 33: "the minute is past 2400";
+    NO_SUCH_VOLUNTEER = 34: "there is no such volunteer";
+    NO_SUCH_RIGHT = 35: "there is no such right";
+    RECORD_UNFIT = 40: "the service record does not fit: its minute is past 2400, or someone open is no such volunteer";
     BEFORE_NOW = 41: "the minute is before now";
     ALREADY_OPEN = 42: "the volunteer's session is open already";
     NO_RIGHT_NOW = 43: "the volunteer holds no right now";
     NOT_OPEN = 44: "the volunteer's session is not open";
-    DATE = 50: "the date or time does not exist or is not in 2001 to 2400";
+    NO_SUCH_DATE = 50: "the date or time does not exist or is not in 2001 to 2400";
 }

@@ -27,17 +27,17 @@ fn every_refusal_has_a_text_of_its_own() {
         assert_eq!(line, format!("refused {}: {}", refusal.number(), refusal.meaning()));
         assert!(line.len() <= 120 && !line.contains('\n'), "{line}");
     }
-    let error: Box<dyn std::error::Error> = Refusal::DATE.into();
+    let error: Box<dyn std::error::Error> = Refusal::NO_SUCH_DATE.into();
     assert!(error.to_string().starts_with("refused 50: the date"));
 }
 
 #[test]
 fn no_bytes() {
-    assert_eq!(Rota::read(&[]), Err(Refusal::SHORT));
+    assert_eq!(Rota::read(&[]), Err(Refusal::ROTA_SHORT));
     assert_eq!(Table::read(&[]), Err(Refusal::TABLE_SHORT));
-    assert_eq!(Rota::read(SMALL).unwrap().rewrite(&mut []), Err(Refusal::AREA));
+    assert_eq!(Rota::read(SMALL).unwrap().rewrite(&mut []), Err(Refusal::AREA_TOO_SMALL));
     for (lent, refusal) in
-        [(Lent::Rota(&[]), Refusal::SHORT), (Lent::Table(&[]), Refusal::TABLE_SHORT)]
+        [(Lent::Rota(&[]), Refusal::ROTA_SHORT), (Lent::Table(&[]), Refusal::TABLE_SHORT)]
     {
         let mut service = Service { now: 3, open: 1 };
         assert_eq!(lent.may(0, 0, 0), Err(refusal));
@@ -56,20 +56,20 @@ fn numbers_do_not_wrap() {
         service.open(lent, 0).unwrap();
         let before = service;
         for number in TOO_HIGH {
-            assert_eq!(lent.may(number, 0, 3), Err(Refusal::VOLUNTEER));
-            assert_eq!(lent.may(0, number, 3), Err(Refusal::RIGHT));
-            assert_eq!(service.open(lent, number), Err(Refusal::VOLUNTEER));
-            assert_eq!(service.close(lent, number), Err(Refusal::VOLUNTEER));
-            assert_eq!(service.ask(lent, number, 0), Err(Refusal::VOLUNTEER));
-            assert_eq!(service.ask(lent, 0, number), Err(Refusal::RIGHT));
+            assert_eq!(lent.may(number, 0, 3), Err(Refusal::NO_SUCH_VOLUNTEER));
+            assert_eq!(lent.may(0, number, 3), Err(Refusal::NO_SUCH_RIGHT));
+            assert_eq!(service.open(lent, number), Err(Refusal::NO_SUCH_VOLUNTEER));
+            assert_eq!(service.close(lent, number), Err(Refusal::NO_SUCH_VOLUNTEER));
+            assert_eq!(service.ask(lent, number, 0), Err(Refusal::NO_SUCH_VOLUNTEER));
+            assert_eq!(service.ask(lent, 0, number), Err(Refusal::NO_SUCH_RIGHT));
             assert!(!service.is_open(number));
-            assert_eq!(minute(2001, number, 1, 0, 0), Err(Refusal::DATE));
-            assert_eq!(minute(2001, 1, 1, number, 0), Err(Refusal::DATE));
+            assert_eq!(minute(2001, number, 1, 0, 0), Err(Refusal::NO_SUCH_DATE));
+            assert_eq!(minute(2001, 1, 1, number, 0), Err(Refusal::NO_SUCH_DATE));
         }
         for minute in [LAST_MINUTE + 1, 1 << 31, u32::MAX] {
-            assert_eq!(lent.may(0, 0, minute), Err(Refusal::MINUTE));
-            assert_eq!(service.advance(lent, minute), Err(Refusal::MINUTE));
-            assert_eq!(date(minute), Err(Refusal::MINUTE));
+            assert_eq!(lent.may(0, 0, minute), Err(Refusal::NO_SUCH_MINUTE));
+            assert_eq!(service.advance(lent, minute), Err(Refusal::NO_SUCH_MINUTE));
+            assert_eq!(date(minute), Err(Refusal::NO_SUCH_MINUTE));
         }
         assert_eq!(service, before);
     }
@@ -88,10 +88,10 @@ fn a_refused_call_leaves_the_record() {
         assert_eq!(service, given);
         for odd in [Service { now: 3, open: 4 }, Service { now: u32::MAX, open: 0 }] {
             let mut service = odd;
-            assert_eq!(service.advance(lent, 5), Err(Refusal::RECORD));
-            assert_eq!(service.open(lent, 0), Err(Refusal::RECORD));
-            assert_eq!(service.close(lent, 0), Err(Refusal::RECORD));
-            assert_eq!(service.ask(lent, 0, 0), Err(Refusal::RECORD));
+            assert_eq!(service.advance(lent, 5), Err(Refusal::RECORD_UNFIT));
+            assert_eq!(service.open(lent, 0), Err(Refusal::RECORD_UNFIT));
+            assert_eq!(service.close(lent, 0), Err(Refusal::RECORD_UNFIT));
+            assert_eq!(service.ask(lent, 0, 0), Err(Refusal::RECORD_UNFIT));
             assert_eq!(service, odd);
         }
     }
@@ -101,7 +101,7 @@ fn a_refused_call_leaves_the_record() {
 fn a_refused_rewriting_leaves_the_area() {
     let rota = Rota::read(SMALL).unwrap();
     let mut area = [0xa5; 258];
-    assert_eq!(rota.rewrite(&mut area), Err(Refusal::AREA));
+    assert_eq!(rota.rewrite(&mut area), Err(Refusal::AREA_TOO_SMALL));
     assert_eq!(area, [0xa5; 258]);
     let mut area = [0xa5; 260];
     assert_eq!(rota.rewrite(&mut area).unwrap().bytes, SMALL_TABLE);
