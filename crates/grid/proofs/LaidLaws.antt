@@ -3,14 +3,14 @@
 --     gaps-at, fields-are, fields-number     gaps and fields by index, and how many fields there are
 --     mask-is                                the mask of one field
 --     Written, written-..                    the masks of the eras passed are stored
---     eras-cut, cells-cut, laid              the arrays of cuts, and all together
+--     eras-cut, cells-cut, divided, laid     the arrays of cuts, and all together
 -- Assumes nothing.
 use Prim.Native.Nat.{ℕ, zero, suc, _+_, _-_, _*_, _%_, _≤_, _<_}
 use mathlib.Core.Path.{_≡_, refl, sym, ap, ap₂, _∙_}
 use mathlib.Core.Bool.{_&&_}
 use mathlib.Core.Logic.{inr}
 use mathlib.Core.List.{List, [], _∷_, _++_, map, append-assoc, append-nil}
-use native.Mathlib.Nat.{not-suc-le-zero, le-antisymm, mul-le-mul-right, mul-le-mul-left}
+use native.Mathlib.Nat.{not-suc-le-zero, le-antisymm, mul-le-mul-right}
 use native.Mathlib.Numerals.{add-one}
 use native.Mathlib.Omega.{arith}
 use lib.ListN.{length, getD, take, length-append, length-map}
@@ -33,7 +33,7 @@ use Rattle.rota.proofs.RotaTheorems.{accepted-well}
 use Rattle.derivation.specs.Cuts.{Gap, gapsFrom, gaps}
 use Rattle.derivation.specs.Rewriting.{hoursCuts, pairCuts, pairsCuts, eraCuts, cellCuts, fieldOf, fieldsOf, fields}
 use Rattle.derivation.specs.Masks.{firstIn, maskOf}
-use Rattle.grid.specs.Grid.{Added, datesHold, pairsHold, hoursNo, recordsThat, fieldMask, gapAt, InCells, maskIn, Cuts, Laid}
+use Rattle.grid.specs.Grid.{Added, datesHold, pairsHold, hoursNo, recordsThat, fieldMask, gapAt, InCells, maskIn, Cuts, Divided, Laid}
 use Rattle.grid.proofs.RecordLaws.{few-hours, hoursCuts-length, pairsCuts-length}
 use Rattle.grid.proofs.OrderLaws.{by-ltb, In, Apart, Upto, upto-append, cuts-apart, added-cuts}
 use Rattle.grid.proofs.FieldLaws.{first-ge, first-rem, holds-split, both-set}
@@ -241,18 +241,23 @@ module _ (s : List ℕ) (ok : rotaJudged s ≡ 0) where
       unfolding cellCuts rotaOf
       cells-cut e l = added-cuts (cycleOf s) (rw e at p) (cell-values (rotaOf s) (accepted-well s ok)) (omega arith) (omega (arith, cells-few))
 
-  pub laid : {eras cells masks : List ℕ} {ne nc : ℕ} → ne ≤ 65 → nc ≤ 513 → Cuts (eraCuts (rotaOf s)) eras ne E → Cuts (cellCuts (rotaOf s)) cells nc (cycleOf s)
-      → ne * nc ≤ length masks → take (ne * nc) masks ≡ map (maskOf (rotaOf s)) (fields (rotaOf s)) → Laid s eras cells masks ne nc
-  laid {eras} {cells} {masks} {ne} {nc} l k ce cc room e =
+  -- the arrays of cuts, and the masks beside them
+  pub divided : {a a′ b b′ : List ℕ} {m n c : ℕ} → c ≡ cycleOf s → Added a 0 (0 ∷ E ∷ hoursCuts (rotaOf s .hours)) b m → 66 ≤ length b
+      → Added a′ 0 (0 ∷ c ∷ pairsCuts (rotaOf s .hours)) b′ n → 514 ≤ length b′ → Divided s b b′ (m - 1) (n - 1)
+  divided e p l q k =
       record {
-        few-eras = l;
-        few-cells = k;
-        era-cuts = ce;
-        cell-cuts = cc;
-        masks-are = e;
-        masks-long = room;
-        count = fields-number eras cells ne nc ce cc;
+        few-eras = omega (arith, eras-few p);
+        few-cells = omega (arith, cells-few q);
+        era-cuts = eras-cut p l;
+        cell-cuts = cells-cut q e k;
       }
 
-pub product : (a b x y : ℕ) → a ≤ x → b ≤ y → a * b ≤ x * y
-product a b x y h k = omega (arith, mul-le-mul-right b h, mul-le-mul-left x k)
+  pub laid : {eras cells masks : List ℕ} {ne nc : ℕ} → Divided s eras cells ne nc → ne * nc ≤ length masks
+      → take (ne * nc) masks ≡ map (maskOf (rotaOf s)) (fields (rotaOf s)) → Laid s eras cells masks ne nc
+  laid {eras} {cells} {masks} {ne} {nc} d room e =
+      record {
+        divided = d;
+        masks-are = e;
+        masks-long = room;
+        count = fields-number eras cells ne nc (d .era-cuts) (d .cell-cuts);
+      }

@@ -79,12 +79,16 @@ pub record Ready (s : List ℕ) (c h : ℕ) (eras : List ℕ) (ne : ℕ) (cells 
   pub in-cells : InCells s h cells nc pairs
   pub pairs-long : nc ≤ length pairs
 
--- the cuts of ne eras and nc cells, and the mask of each field: eras, then cells
-pub record Laid (s eras cells masks : List ℕ) (ne nc : ℕ) : Type 0 where
+-- the cuts of ne eras and nc cells
+pub record Divided (s eras cells : List ℕ) (ne nc : ℕ) : Type 0 where
   pub few-eras : ne ≤ 65
   pub few-cells : nc ≤ 513
   pub era-cuts : Cuts (eraCuts (rotaOf s)) eras ne E
   pub cell-cuts : Cuts (cellCuts (rotaOf s)) cells nc (cycleOf s)
+
+-- with the mask of each field: eras, then cells
+pub record Laid (s eras cells masks : List ℕ) (ne nc : ℕ) : Type 0 where
+  pub divided : Divided s eras cells ne nc
   pub masks-are : take (ne * nc) masks ≡ map (maskOf (rotaOf s)) (fields (rotaOf s))
   pub masks-long : ne * nc ≤ length masks
   pub count : length (fields (rotaOf s)) ≡ ne * nc

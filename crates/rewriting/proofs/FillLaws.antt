@@ -19,7 +19,7 @@ use Rattle.derivation.proofs.RoleByRole.{entriesAt, rowsAt, entriesFrom, rowsFr
 use Rattle.derivation.proofs.RoleMarks.{rowsMarked}
 use Rattle.derive.specs.Derive.{entriesTo}
 use Rattle.derive.specs.declared.Count.{Count}
-use Rattle.grid.specs.Grid.{Cuts, Laid}
+use Rattle.grid.specs.Grid.{Cuts, Divided, Laid}
 use Rattle.rewriting.specs.Parts.{RoleDerived, roleRows}
 use Rattle.rewriting.proofs.WriteLaws.{entry-long, row-long, joined-long, sets-comm}
 use Rattle.rewriting.proofs.CountLaws.{all-entries, all-rows}
@@ -29,7 +29,7 @@ pub role-rows-are : (s eras cells masks : List ℕ) (ne nc : ℕ) → Laid s era
     → RoleDerived s r (ne * nc) us ps marks k → (base : ℕ) → roleRows base eras ne cells nc marks ≡ rowsAt (rotaOf s) r base
 unfolding roleRows fields
 role-rows-are s eras cells masks ne nc l r us ps marks k d base =
-    ap₂ (λ (x y : List ℕ). rowsMarked base (fieldsOf (gaps x) (gaps y)) (take (ne * nc) marks)) (l .era-cuts .are) (l .cell-cuts .are) ∙ d .rows-are base
+    ap₂ (λ (x y : List ℕ). rowsMarked base (fieldsOf (gaps x) (gaps y)) (take (ne * nc) marks)) (l .divided .era-cuts .are) (l .divided .cell-cuts .are) ∙ d .rows-are base
 
 -- cells fit two bytes
 pub cells-fit : {l a : List ℕ} {n top : ℕ} → top ≤ 65535 → Cuts l a n top → Cuts (take (n + 1) a) a n 65535
@@ -136,5 +136,5 @@ pub size-room : (s : List ℕ) (total n : ℕ) → total ≡ length (rewrite (ro
 unfolding sizeOf
 size-room s total n e h = omega (arith, e)
 
-pub fields-few : {s eras cells masks : List ℕ} {ne nc : ℕ} → Laid s eras cells masks ne nc → ne * nc ≤ 33345
-fields-few {nc = nc} l = omega (arith, mul-le-mul-right nc (l .few-eras), l .few-cells)
+pub fields-few : {s eras cells : List ℕ} {ne nc : ℕ} → Divided s eras cells ne nc → ne * nc ≤ 33345
+fields-few {nc = nc} d = omega (arith, mul-le-mul-right nc (d .few-eras), d .few-cells)

@@ -7,3 +7,4 @@ pub mod FieldLaws
 pub mod FillLaws
 pub mod AnswerLaws
 pub mod TableLaws
+pub mod ScratchLaws

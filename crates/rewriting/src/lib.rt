@@ -13,7 +13,7 @@ ghost use Rattle.derivation.specs.Masks.{slotOf};
 ghost use Rattle.derivation.proofs.RoleMarks.{marked};
 ghost use Rattle.derive.specs.Role.{bySlot, roleOf};
 ghost use Rattle.derive.specs.Derive.{Room, entriesTo};
-ghost use Rattle.grid.specs.Grid.{Cuts, Laid};
+ghost use Rattle.grid.specs.Grid.{Cuts, Divided, Laid};
 ghost use Rattle.rewriting.specs.Parts.{Located, RowsFit, MasksAre, RoleDerived, CountedTo, HeaderFits, started, cellOf, eraRows, roleRows};
 ghost use Rattle.rewriting.specs.Answers.{writtenGiven};
 use derive::Count;
@@ -87,14 +87,14 @@ fn derive_role(
 fn count_all(
     s: &[u8],
     l: Layout,
-    masks: &[u64; 33345],
+    masks: &[u64],
     n: usize,
     room: usize,
-    us: &mut [u64; 33345],
-    ps: &mut [u64; 33345],
-    marks: &mut [u16; 33345],
+    us: &mut [u64],
+    ps: &mut [u64],
+    marks: &mut [u16],
 ) -> Count
-    requires { ⌜ Located (now s) l × (n ≤ 33345) × MasksAre (now s) (now masks) n ⌝ }
+    requires { ⌜ Located (now s) l × Room n (now masks) (now us) (now ps) (now marks) × MasksAre (now s) (now masks) n ⌝ }
     ensures { λ k. ⌜ CountedTo (now (s .entry)) room k ⌝ }
 {
     let counts = l.counts;
@@ -228,12 +228,12 @@ fn write_all(
     ne: usize,
     cells: &[u32; 514],
     nc: usize,
-    masks: &[u64; 33345],
-    us: &mut [u64; 33345],
-    ps: &mut [u64; 33345],
-    marks: &mut [u16; 33345],
+    masks: &[u64],
+    us: &mut [u64],
+    ps: &mut [u64],
+    marks: &mut [u16],
 )
-    requires { ⌜ Located (now s) l × Laid (now s) (now eras) (now cells) (now masks) ne nc ⌝ }
+    requires { ⌜ Located (now s) l × Laid (now s) (now eras) (now cells) (now masks) ne nc × Room (ne * nc) (now masks) (now us) (now ps) (now marks) ⌝ }
     requires { ⌜ (total ≡ length (rewrite (rotaOf (now s)) .entries)) × (sizeOf (rewrite (rotaOf (now s))) ≤ length (now out)) ⌝ }
     ensures { λ _. ⌜ now (out .exit)
         ≡ sets (sets (now (out .entry)) 16 (joined entryBytes (rewrite (rotaOf (now (s .entry))) .entries))) (16 + 17 * total)
@@ -286,12 +286,12 @@ fn write_table(
     ne: usize,
     cells: &[u32; 514],
     nc: usize,
-    masks: &[u64; 33345],
-    us: &mut [u64; 33345],
-    ps: &mut [u64; 33345],
-    marks: &mut [u16; 33345],
+    masks: &[u64],
+    us: &mut [u64],
+    ps: &mut [u64],
+    marks: &mut [u16],
 ) -> Rewritten
-    requires { ⌜ Located (now s) l × Laid (now s) (now eras) (now cells) (now masks) ne nc × CountedTo (now s) (length (now out)) k ⌝ }
+    requires { ⌜ Located (now s) l × Laid (now s) (now eras) (now cells) (now masks) ne nc × CountedTo (now s) (length (now out)) k × Room (ne * nc) (now masks) (now us) (now ps) (now marks) ⌝ }
     ensures { λ r. ⌜ (writtenGiven r ≡ rewriteOutcome (now (s .entry)) (length (now (out .entry)))) × (now (out .exit) ≡ areaAfter (now (s .entry)) (now (out .entry))) ⌝ }
 {
     let d = k.entries;
@@ -317,6 +317,124 @@ fn write_table(
     Rewritten::Refused(20)
 }
 
+// Rewrites a rota that is read and divided, in lent scratch with a place for each field.
+fn rewrite_with(
+    s: &[u8],
+    l: Layout,
+    out: &mut [u8],
+    eras: &[u32; 66],
+    ne: usize,
+    cells: &[u32; 514],
+    nc: usize,
+    masks: &mut [u64],
+    us: &mut [u64],
+    ps: &mut [u64],
+    marks: &mut [u16],
+) -> Rewritten
+    requires { ⌜ Located (now s) l × Divided (now s) (now eras) (now cells) ne nc × Room (ne * nc) (now masks) (now us) (now ps) (now marks) ⌝ }
+    ensures { λ r. ⌜ (writtenGiven r ≡ rewriteOutcome (now (s .entry)) (length (now (out .entry)))) × (now (out .exit) ≡ areaAfter (now (s .entry)) (now (out .entry))) ⌝ }
+{
+    let n = l.counts;
+    grid::lay(s, n.cycle, n.hours as usize, eras, ne, cells, nc, masks);
+    let k = count_all(s, l, masks, ne * nc, out.len(), us, ps, marks);
+    write_table(s, l, out, k, eras, ne, cells, nc, masks, us, ps, marks)
+}
+
+// Scratch is cleared before use, so it comes in three sizes, each in a function of its own: a small rota does not pay for the largest.
+fn rewrite_small(
+    s: &[u8],
+    l: Layout,
+    out: &mut [u8],
+    eras: &[u32; 66],
+    ne: usize,
+    cells: &[u32; 514],
+    nc: usize,
+) -> Rewritten
+    requires { ⌜ Located (now s) l × Divided (now s) (now eras) (now cells) ne nc × (ne * nc ≤ 256) ⌝ }
+    ensures { λ r. ⌜ (writtenGiven r ≡ rewriteOutcome (now (s .entry)) (length (now (out .entry)))) × (now (out .exit) ≡ areaAfter (now (s .entry)) (now (out .entry))) ⌝ }
+{
+    let mut masks = [0u64; 256];
+    let mut us = [0u64; 256];
+    let mut ps = [0u64; 256];
+    let mut marks = [0u16; 256];
+    rewrite_with(
+        s,
+        l,
+        out,
+        eras,
+        ne,
+        cells,
+        nc,
+        &mut masks,
+        &mut us,
+        &mut ps,
+        &mut marks,
+    )
+}
+
+fn rewrite_middle(
+    s: &[u8],
+    l: Layout,
+    out: &mut [u8],
+    eras: &[u32; 66],
+    ne: usize,
+    cells: &[u32; 514],
+    nc: usize,
+) -> Rewritten
+    requires { ⌜ Located (now s) l × Divided (now s) (now eras) (now cells) ne nc × (ne * nc ≤ 4096) ⌝ }
+    ensures { λ r. ⌜ (writtenGiven r ≡ rewriteOutcome (now (s .entry)) (length (now (out .entry)))) × (now (out .exit) ≡ areaAfter (now (s .entry)) (now (out .entry))) ⌝ }
+{
+    let mut masks = [0u64; 4096];
+    let mut us = [0u64; 4096];
+    let mut ps = [0u64; 4096];
+    let mut marks = [0u16; 4096];
+    rewrite_with(
+        s,
+        l,
+        out,
+        eras,
+        ne,
+        cells,
+        nc,
+        &mut masks,
+        &mut us,
+        &mut ps,
+        &mut marks,
+    )
+}
+
+// 33,345 fields are the most: 65 eras by 513 cells.
+fn rewrite_large(
+    s: &[u8],
+    l: Layout,
+    out: &mut [u8],
+    eras: &[u32; 66],
+    ne: usize,
+    cells: &[u32; 514],
+    nc: usize,
+) -> Rewritten
+    requires { ⌜ Located (now s) l × Divided (now s) (now eras) (now cells) ne nc ⌝ }
+    ensures { λ r. ⌜ (writtenGiven r ≡ rewriteOutcome (now (s .entry)) (length (now (out .entry)))) × (now (out .exit) ≡ areaAfter (now (s .entry)) (now (out .entry))) ⌝ }
+{
+    let mut masks = [0u64; 33345];
+    let mut us = [0u64; 33345];
+    let mut ps = [0u64; 33345];
+    let mut marks = [0u16; 33345];
+    rewrite_with(
+        s,
+        l,
+        out,
+        eras,
+        ne,
+        cells,
+        nc,
+        &mut masks,
+        &mut us,
+        &mut ps,
+        &mut marks,
+    )
+}
+
 // Rewrites a rota that is read.
 fn rewrite_located(s: &[u8], l: Layout, out: &mut [u8]) -> Rewritten
     requires { ⌜ Located (now s) l ⌝ }
@@ -324,45 +442,18 @@ fn rewrite_located(s: &[u8], l: Layout, out: &mut [u8]) -> Rewritten
 {
     let mut eras = [0u32; 66];
     let mut cells = [0u32; 514];
-    let mut masks = [0u64; 33345];
-    let mut us = [0u64; 33345];
-    let mut ps = [0u64; 33345];
-    let mut marks = [0u16; 33345];
     let n = l.counts;
-    let size = grid::lay(
-        s,
-        n.cycle,
-        n.hours as usize,
-        &mut eras,
-        &mut cells,
-        &mut masks,
-    );
+    let size = grid::divide(s, n.cycle, n.hours as usize, &mut eras, &mut cells);
     let ne = size.eras;
     let nc = size.cells;
-    let k = count_all(
-        s,
-        l,
-        &masks,
-        ne * nc,
-        out.len(),
-        &mut us,
-        &mut ps,
-        &mut marks,
-    );
-    write_table(
-        s,
-        l,
-        out,
-        k,
-        &eras,
-        ne,
-        &cells,
-        nc,
-        &masks,
-        &mut us,
-        &mut ps,
-        &mut marks,
-    )
+    let fields = ne * nc;
+    if fields <= 256 {
+        return rewrite_small(s, l, out, &eras, ne, &cells, nc);
+    }
+    if fields <= 4096 {
+        return rewrite_middle(s, l, out, &eras, ne, &cells, nc);
+    }
+    rewrite_large(s, l, out, &eras, ne, &cells, nc)
 }
 
 // Rewrites a rota into an area: 1 to 12 as it is read, then 20 exactly where the table is longer than the area, which then stays as it came; else

@@ -5,20 +5,17 @@ use borrow.Author.Needs.{needs}
 use Rattle.rewriting.proofs.rewrite_located.Statement.{statement}
 use Rattle.rewriting.proofs.rewrite_located.Tie as tie
 
-cast-lay : tie.Need-cast-lay
-cast-lay c = search needs
+cast-divide : tie.Need-cast-divide
+cast-divide c = search needs
 
-lay-requires : tie.Need-lay-requires
-lay-requires c κs = let a = c .before .before .before .before .before .before .before .args in lay-asks (a .s .now) (a .l) (c .before .before .before .before .before .before .before .pre)
+divide-requires : tie.Need-divide-requires
+divide-requires c κs = let a = c .before .before .before .before .before .before .args in lay-asks (a .s .now) (a .l) (c .before .before .before .before .before .before .pre)
 
-mul-count-all : tie.Need-mul-count-all
-mul-count-all c = omega (arith, fields-few (c .before .lay .ensures))
+mul-fields : tie.Need-mul-fields
+mul-fields c = omega (arith, fields-few (c .divide .ensures))
 
-count-all-requires : tie.Need-count-all-requires
-count-all-requires c κs = (c .before .before .before .before .before .before .before .before .before .before .before .before .pre, fields-few (c .before .before .before .before .lay .ensures), c .before .before .before .before .lay .ensures .masks-are)
-
-write-table-requires : tie.Need-write-table-requires
-write-table-requires c κs = search needs
+rewrite-small-requires : tie.Need-rewrite-small-requires
+rewrite-small-requires c κs = (c .before .before .before .before .before .before .before .before .before .before .before .pre, c .before .before .before .before .divide .ensures, c .before .before .before .if1 .taken)
 
 same-length : tie.Need-same-length
 same-length c = search needs
@@ -26,14 +23,37 @@ same-length c = search needs
 returns : tie.Need-returns
 returns c = search needs
 
+rewrite-middle-requires : tie.Need-rewrite-middle-requires
+rewrite-middle-requires c κs = (c .before .before .before .before .before .before .before .before .before .before .before .before .pre, c .before .before .before .before .before .divide .ensures, c .before .before .before .if2 .taken)
+
+same-length-2 : tie.Need-same-length-2
+same-length-2 c = search needs
+
+returns-2 : tie.Need-returns-2
+returns-2 c = search needs
+
+rewrite-large-requires : tie.Need-rewrite-large-requires
+rewrite-large-requires c κs = (c .before .before .before .before .before .before .before .before .before .before .before .before .pre, c .before .before .before .before .before .divide .ensures)
+
+same-length-3 : tie.Need-same-length-3
+same-length-3 c = search needs
+
+returns-3 : tie.Need-returns-3
+returns-3 c = search needs
+
 pub rewrite-located-spec : {M : Type 1} → statement M
 rewrite-located-spec =
     tie.close
     (tie.spec
-    cast-lay
-    lay-requires
-    mul-count-all
-    count-all-requires
-    write-table-requires
+    cast-divide
+    divide-requires
+    mul-fields
+    rewrite-small-requires
     same-length
-    returns)
+    returns
+    rewrite-middle-requires
+    same-length-2
+    returns-2
+    rewrite-large-requires
+    same-length-3
+    returns-3)

@@ -1,0 +1,38 @@
+use native.Mathlib.Omega.{arith}
+use Rattle.rewriting.proofs.ScratchLaws.{room-of}
+use borrow.Author.Needs.{needs}
+use Rattle.rewriting.proofs.rewrite_small.Statement.{statement}
+use Rattle.rewriting.proofs.rewrite_small.Tie as tie
+
+slice-aggregate-rewrite-with : tie.Need-slice-aggregate-rewrite-with
+slice-aggregate-rewrite-with c = search needs
+
+slice-aggregate-rewrite-with-2 : tie.Need-slice-aggregate-rewrite-with-2
+slice-aggregate-rewrite-with-2 c = search needs
+
+slice-aggregate-rewrite-with-3 : tie.Need-slice-aggregate-rewrite-with-3
+slice-aggregate-rewrite-with-3 c = search needs
+
+slice-aggregate-rewrite-with-4 : tie.Need-slice-aggregate-rewrite-with-4
+slice-aggregate-rewrite-with-4 c = search needs
+
+rewrite-with-requires : tie.Need-rewrite-with-requires
+rewrite-with-requires c κs = let p = c .before .before .before .before .before .before .before .pre in (p .0, p .1, room-of (omega (arith, p .2)) (p .2) (omega arith) (omega arith) (omega arith) (omega arith))
+
+same-length : tie.Need-same-length
+same-length c = search needs
+
+returns : tie.Need-returns
+returns c = search needs
+
+pub rewrite-small-spec : {M : Type 1} → statement M
+rewrite-small-spec =
+    tie.close
+    (tie.spec
+    slice-aggregate-rewrite-with
+    slice-aggregate-rewrite-with-2
+    slice-aggregate-rewrite-with-3
+    slice-aggregate-rewrite-with-4
+    rewrite-with-requires
+    same-length
+    returns)
