@@ -10,7 +10,7 @@ use native.Mathlib.Numerals.{add-one}
 use lib.Dec.{ltb, eqb}
 use lib.ListN.{length, getD, take, drop, set, length-set}
 use lib.Seq.{take-suc-set, append-snoc, length-take-le}
-use borrow.Author.Tests.{eq-eqb, ne-eqb, lt-ltb, le-ltb}
+use borrow.Author.Tests.{lt-ltb, le-ltb}
 use Rattle.ground.specs.Choice.{pick}
 use Rattle.table.specs.Table.{Entry}
 use Rattle.derive.specs.declared.Role.{Role}
@@ -90,12 +90,6 @@ deriving-start role n masks us ps marks =
       marks-so = refl;
       rows-so = omega arith;
     }
-
-pub grown-yes : (d m : ℕ) → m ≡ d + 1 → d + 1 ≡ grown d m
-grown-yes d m e = rw (eq-eqb m (d + 1) e)
-
-pub grown-no : (d m : ℕ) → (m ≡ d + 1 → ⊥) → d ≡ grown d m
-grown-no d m e = rw (ne-eqb m (d + 1) e)
 
 pub row-yes : (rows m : ℕ) → 0 < m → rows + 1 ≡ rows + pick (ltb 0 m) 1 0
 row-yes rows m h = rw (lt-ltb 0 m h)

@@ -9,7 +9,7 @@ use native.Mathlib.Numerals.{add-one}
 use lib.Dec.{T, eqb, eqb-refl}
 use lib.ListN.{length, getD, take, drop}
 use lib.Seq.{drop-cons, getD-take, length-take-le, drop-length}
-use borrow.Author.Tests.{eq-eqb, ne-eqb}
+use borrow.Author.Tests.{eq-eqb, eqb-true}
 use Rattle.ground.specs.Choice.{pick}
 use Rattle.ground.proofs.BoolLaws.{T→eq}
 use Rattle.bitset.specs.Sets.{has, union}
@@ -105,13 +105,15 @@ module _ (source u p i n : ℕ) (us ps : List ℕ) (hi : i < n) (hu : n ≤ leng
       = ap (λ (k : ℕ). placeOf same (entryMade source u p) (entriesLeft source k n us ps)) (add-one i) in
       omega arith
 
-  pub miss-users : (getD us i 0 ≡ u → ⊥)
+  -- an entry that differs in one of its sets is passed over
+  pub miss-other : (getD us i 0 ≡ u → getD ps i 0 ≡ p → ⊥)
       → (i + 1) + placeOf same (entryMade source u p) (entriesLeft source (i + 1) n us ps) ≡ i + placeOf same (entryMade source u p) (entriesLeft source i n us ps)
-  miss-users ne = miss (rw (T→eq (eqb source source) (eqb-refl source), ne-eqb u (getD us i 0) (λ e. ne (sym e))))
-
-  pub miss-permissions : (getD ps i 0 ≡ p → ⊥)
-      → (i + 1) + placeOf same (entryMade source u p) (entriesLeft source (i + 1) n us ps) ≡ i + placeOf same (entryMade source u p) (entriesLeft source i n us ps)
-  miss-permissions ne = miss (rw (ne-eqb p (getD ps i 0) (λ e. ne (sym e))) (and-no (eqb source source && eqb u (getD us i 0))))
+  miss-other other = miss (differs (eqb u (getD us i 0)) (eqb p (getD ps i 0)) refl refl)
+    where
+      differs : (a b : Bool) → eqb u (getD us i 0) ≡ a → eqb p (getD ps i 0) ≡ b → same (entryMade source u p) (entryMade source (getD us i 0) (getD ps i 0)) ≡ false
+      differs true true e f = absurd (other (sym (eqb-true u (getD us i 0) e)) (sym (eqb-true p (getD ps i 0) f)))
+      differs false b e f = rw (T→eq (eqb source source) (eqb-refl source), e)
+      differs true false e f = rw (f) (and-no (eqb source source && eqb u (getD us i 0)))
 
 pub find-end : (source u p i n : ℕ) (us ps : List ℕ) → n ≤ length us → i ≡ n → n ≡ i + placeOf same (entryMade source u p) (entriesLeft source i n us ps)
 unfolding placeOf

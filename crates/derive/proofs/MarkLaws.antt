@@ -1,17 +1,18 @@
 -- One field: the mark, and the entries afterwards.
 -- Assumes nothing.
 use Prim.Native.Nat.{ℕ, zero, suc, _+_, _<_, _≤_}
-use mathlib.Core.Path.{_≡_, refl, sym, _∙_, ap, ap₂}
+use mathlib.Core.Path.{_≡_, refl, sym, _∙_, ap, ap₂, subst}
 use mathlib.Core.Bool.{Bool, true, false, not, _&&_, _||_}
 use mathlib.Core.Option.{Option, none, some}
 use mathlib.Core.List.{List, [], _∷_, _++_}
 use native.Mathlib.Omega.{arith}
 use native.Mathlib.Numerals.{add-one}
-use lib.Dec.{eqb, eqb·suc-suc}
+use lib.Dec.{eqb, eqb-refl, eqb·suc-suc}
 use lib.ListN.{length, getD, take, set}
-use lib.Seq.{length-take-le, take-suc-set, take-set-lt, set-getD}
-use borrow.Author.Tests.{eq-eqb, ne-eqb, eqb-true, eqb-false}
+use lib.Seq.{length-take-le, take-suc-set, getD-take}
+use borrow.Author.Tests.{eq-eqb, ne-eqb}
 use Rattle.ground.specs.Choice.{pick}
+use Rattle.ground.proofs.BoolLaws.{T→eq}
 use Rattle.ground.specs.Search.{any}
 use Rattle.table.specs.Table.{Entry}
 use Rattle.table.specs.Answers.{entryMade}
@@ -19,7 +20,16 @@ use Rattle.derivation.specs.Distinct.{addNew, placeOf}
 use Rattle.derivation.specs.Rewriting.{same}
 use Rattle.derive.specs.declared.Sets.{Sets}
 use Rattle.derive.specs.Role.{entryOf, keptWith}
-use Rattle.derive.specs.Derive.{entriesWith, entriesTo, nextEntries, markOf, Marked}
+use Rattle.derive.specs.Index.{Absent, Indexed}
+use Rattle.derive.specs.Derive.{entriesWith, entriesTo, nextEntries, markOf, grown, Marked}
+
+-- ---- how many entries there are after a mark
+
+pub grown-yes : (d m : ℕ) → m ≡ d + 1 → d + 1 ≡ grown d m
+grown-yes d m e = rw (eq-eqb m (d + 1) e)
+
+pub grown-no : (d m : ℕ) → (m ≡ d + 1 → ⊥) → d ≡ grown d m
+grown-no d m e = rw (ne-eqb m (d + 1) e)
 
 -- ---- the place of an entry
 
@@ -66,28 +76,22 @@ entries-snoc source [] (y ∷ ps) u p h = absurd (omega arith)
 entries-snoc source (x ∷ us) [] u p h = absurd (omega arith)
 entries-snoc source (x ∷ us) (y ∷ ps) u p h = ap (λ (l : List Entry). entryMade source x y ∷ l) (entries-snoc source us ps u p (omega arith))
 
-and-both : (a b : Bool) → (a && b) ≡ true → (a ≡ true) × (b ≡ true)
-and-both true b e = (refl, e)
-and-both false b e = let z : _≡_ {A = ℕ} 0 1 = cc in absurd (omega arith)
+differ : true ≡ false → ⊥
+differ e = let z : _≡_ {A = ℕ} 0 1 = cc in absurd (omega arith)
 
--- what stands at the place of an entry is that entry
-place-get : (source u p : ℕ) (us ps : List ℕ) (k : ℕ) → k ≡ placeOf same (entryMade source u p) (entriesWith source us ps) → k < length (entriesWith source us ps)
-    → (getD us k 0 ≡ u) × (getD ps k 0 ≡ p)
+-- an entry stands nowhere before its place
+place-before : (source u p : ℕ) (us ps : List ℕ) (i : ℕ) → i < placeOf same (entryMade source u p) (entriesWith source us ps) → getD us i 0 ≡ u → getD ps i 0 ≡ p → ⊥
 unfolding entriesWith placeOf
-place-get source u p [] ps k e h = absurd (omega arith)
-place-get source u p (x ∷ us) [] k e h = absurd (omega arith)
-place-get source u p (x ∷ us) (y ∷ ps) k e h = go (same (entryMade source u p) (entryMade source x y)) refl (place-get source u p us ps) k e h
+place-before source u p [] ps i h eu ep = absurd (omega arith)
+place-before source u p (x ∷ us) [] i h eu ep = absurd (omega arith)
+place-before source u p (x ∷ us) (y ∷ ps) i h eu ep = go (same (entryMade source u p) (entryMade source x y)) refl (place-before source u p us ps) i h eu ep
   where
     go : (b : Bool) → same (entryMade source u p) (entryMade source x y) ≡ b
-        → ((k : ℕ) → k ≡ placeOf same (entryMade source u p) (entriesWith source us ps) → k < length (entriesWith source us ps) → (getD us k 0 ≡ u) × (getD ps k 0 ≡ p))
-        → (k : ℕ) → k ≡ pick b 0 (suc (placeOf same (entryMade source u p) (entriesWith source us ps))) → k < suc (length (entriesWith source us ps))
-        → (getD (x ∷ us) k 0 ≡ u) × (getD (y ∷ ps) k 0 ≡ p)
-    go true q ih zero e h =
-        let t = and-both (eqb source source && eqb u x) (eqb p y) q in
-        (sym (eqb-true u x (and-both (eqb source source) (eqb u x) (t .0) .1)), sym (eqb-true p y (t .1)))
-    go true q ih (suc k) e h = absurd (omega arith)
-    go false q ih zero e h = absurd (omega arith)
-    go false q ih (suc k) e h = ih k (omega arith) (omega arith)
+        → ((i : ℕ) → i < placeOf same (entryMade source u p) (entriesWith source us ps) → getD us i 0 ≡ u → getD ps i 0 ≡ p → ⊥)
+        → (i : ℕ) → i < pick b 0 (suc (placeOf same (entryMade source u p) (entriesWith source us ps))) → getD (x ∷ us) i 0 ≡ u → getD (y ∷ ps) i 0 ≡ p → ⊥
+    go true q ih i h eu ep = absurd (omega arith)
+    go false q ih zero h eu ep = differ (rw (T→eq (eqb source source) (eqb-refl source), eq-eqb u x (sym eu), eq-eqb p y (sym ep)) at q)
+    go false q ih (suc i) h eu ep = ih i (omega arith) eu ep
 
 -- ---- a field that is not kept, and one that is
 
@@ -114,35 +118,58 @@ module _ (source : ℕ) (d : ℕ) (us ps : List ℕ) (hu : d < length us) (hp : 
       }
 
   module _ (u p k : ℕ) (e : k ≡ placeOf same (entryMade source u p) (entriesTo source d us ps)) where
-    stored : (b : Bool) → eqb k d ≡ b
-        → entriesTo source (pick b (d + 1) d) (set us k u) (set ps k p) ≡ pick b (entriesTo source d us ps ++ (entryMade source u p ∷ [])) (entriesTo source d us ps)
-    stored true f =
-        let q : k ≡ d = eqb-true k d f in
-        ap (λ (n : ℕ). entriesTo source (d + 1) (set us n u) (set ps n p)) q
-        ∙ ap (λ (n : ℕ). entriesTo source n (set us d u) (set ps d p)) (add-one d)
-        ∙ ap₂ (entriesWith source) (take-suc-set us d u hu) (take-suc-set ps d p hp)
-        ∙ entries-snoc source (take d us) (take d ps) u p (lu ∙ sym lp)
-    stored false f =
-        let ne : k ≡ d → ⊥ = eqb-false k d f in
-        let lt : k < d = omega (arith, found-le (entryMade source u p)) in
-        let g = place-get source u p (take d us) (take d ps) k e (omega (arith, ld)) in
-        ap₂ (entriesWith source)
-        (take-set-lt d us k u lt ∙ ap (set (take d us) k) (sym (g .0)) ∙ set-getD (take d us) k 0)
-        (take-set-lt d ps k p lt ∙ ap (set (take d ps) k) (sym (g .1)) ∙ set-getD (take d ps) k 0)
+    grows : (b : Bool) → eqb k d ≡ b
+        → pick b (entriesTo source d us ps ++ (entryMade source u p ∷ [])) (entriesTo source d us ps) ≡ addNew same (entriesTo source d us ps) (entryMade source u p)
+    grows b f =
+        ap (λ (c : Bool). pick c (entriesTo source d us ps ++ (entryMade source u p ∷ [])) (entriesTo source d us ps)) (sym f ∙ ap₂ eqb e (sym ld))
+        ∙ add-by (entryMade source u p) (entriesTo source d us ps)
 
-    pub mark-some : (o : Option Entry) → o ≡ some (entryMade source u p) → Marked source o d us ps (set us k u) (set ps k p) (k + 1)
+    -- the two sets are among the first d
+    pub mark-old : k < d → (o : Option Entry) → o ≡ some (entryMade source u p) → Marked source o d us ps us ps (k + 1)
     unfolding markOf nextEntries
-    mark-some o q =
+    mark-old h o q =
         record {
           marked = rw q (add-one k ∙ ap suc e);
-          small = omega (arith, found-le (entryMade source u p));
+          small = omega arith;
           entries-then =
               rw q
-              (ap (λ (b : Bool). entriesTo source (pick b (d + 1) d) (set us k u) (set ps k p)) (ap₂ eqb (add-one k) (add-one d) ∙ eqb·suc-suc k d)
-              ∙ stored (eqb k d) refl
-              ∙ ap (λ (b : Bool). pick b (entriesTo source d us ps ++ (entryMade source u p ∷ [])) (entriesTo source d us ps)) (ap₂ eqb e (sym ld))
-              ∙ add-by (entryMade source u p) (entriesTo source d us ps));
+              (ap (λ (n : ℕ). entriesTo source n us ps) (sym (grown-no d (k + 1) (λ z. omega arith)))
+              ∙ grows false (ne-eqb k d (λ z. omega arith)));
         }
+
+    -- they are not, and come next
+    pub absent : k ≡ d → Absent d us ps u p
+    absent q =
+        record {
+          nowhere = λ i h eu ep.
+              place-before source u p (take d us) (take d ps) i (omega (arith, e)) (getD-take d us i 0 h ∙ eu) (getD-take d ps i 0 h ∙ ep);
+        }
+
+    pub mark-new : k ≡ d → (us′ ps′ : List ℕ) → us′ ≡ set us d u → ps′ ≡ set ps d p → (o : Option Entry) → o ≡ some (entryMade source u p)
+        → Marked source o d us ps us′ ps′ (d + 1)
+    unfolding markOf nextEntries
+    mark-new h us′ ps′ eu ep o q =
+        record {
+          marked = rw q (add-one d ∙ ap suc (sym h ∙ e));
+          small = omega arith;
+          entries-then =
+              rw q
+              (ap (λ (n : ℕ). entriesTo source n us′ ps′) (sym (grown-yes d (d + 1) refl) ∙ add-one d)
+              ∙ ap₂ (λ (a b : List ℕ). entriesTo source (suc d) a b) eu ep
+              ∙ ap₂ (entriesWith source) (take-suc-set us d u hu) (take-suc-set ps d p hp)
+              ∙ entries-snoc source (take d us) (take d ps) u p (lu ∙ sym lp)
+              ∙ grows true (eq-eqb k d h));
+        }
+
+-- the index of as many entries as there are after a mark
+pub index-then : {n k : ℕ} {us ps heads links : List ℕ} → n ≡ k → Indexed k us ps heads links → Indexed n us ps heads links
+index-then {us = us} {ps} {heads} {links} e x = subst (λ (j : ℕ). Indexed j us ps heads links) (sym e) x
+
+pub index-same : {d : ℕ} {us ps heads links : List ℕ} → Indexed d us ps heads links → (m : ℕ) → (m ≡ d + 1 → ⊥) → Indexed (grown d m) us ps heads links
+index-same {d} x m h = index-then (sym (grown-no d m h)) x
+
+pub index-more : (d : ℕ) {us ps heads links : List ℕ} → Indexed (d + 1) us ps heads links → Indexed (grown d (d + 1)) us ps heads links
+index-more d x = index-then (sym (grown-yes d (d + 1) refl)) x
 
 -- ---- what a field's two sets say
 

@@ -58,12 +58,13 @@ pub record Marked (source : ℕ) (kept : Option Entry) (d : ℕ) (us ps us′ ps
   pub entries-then : entriesTo source (grown d m) us′ ps′ ≡ nextEntries (entriesTo source d us ps) kept
 
 -- the lists have n places, and a mark fits two bytes
-pub record Room (n : ℕ) (masks us ps marks : List ℕ) : Type 0 where
+pub record Room (n : ℕ) (masks us ps marks links : List ℕ) : Type 0 where
   pub few : n ≤ 33345
   pub for-masks : n ≤ length masks
   pub for-users : n ≤ length us
   pub for-permissions : n ≤ length ps
   pub for-marks : n ≤ length marks
+  pub for-links : n ≤ length links
 
 abbrev pub roleMade : ℕ → ℕ → List ℕ → List ℕ → Role
 roleMade source on users permissions = record { source = source; on = on; users = users; permissions = permissions }

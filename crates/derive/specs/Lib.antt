@@ -1,2 +1,3 @@
 pub mod Role
+pub mod Index
 pub mod Derive

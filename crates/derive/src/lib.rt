@@ -1,12 +1,13 @@
 // One role's derived roles: the distinct pairs of sets that it has in the fields, in the order in which they come, and which one each field has.
 ghost use mathlib.Core.Path.{_≡_};
 ghost use Prim.Native.Nat.{_+_, _<_, _≤_};
-ghost use lib.ListN.{length};
+ghost use lib.ListN.{length, set};
 ghost use Rattle.table.specs.Answers.{entryMade};
 ghost use Rattle.derivation.specs.Distinct.{placeOf};
 ghost use Rattle.derivation.specs.Rewriting.{same};
 ghost use Rattle.derive.specs.Role.{unionOf, setsIn, keptWith};
-ghost use Rattle.derive.specs.Derive.{entriesTo, Marked, Room, Derived};
+ghost use Rattle.derive.specs.Index.{bucketOf, Indexed, Absent};
+ghost use Rattle.derive.specs.Derive.{entriesTo, grown, Marked, Room, Derived};
 
 // A role: its number, the slot of the hours in which it is enabled, and its users and permissions by slot. Slot k is hours record k, 32 is always.
 pub struct Role {
@@ -58,27 +59,77 @@ fn sets_in(on: u32, users: &[u64; 33], permissions: &[u64; 33], mask: u64) -> Se
     }
 }
 
-// Where the two sets stand among the first n of us and ps, or n.
-fn find(source: u8, us: &[u64], ps: &[u64], n: usize, u: u64, p: u64) -> usize
-    requires { ⌜ (n ≤ length (now us)) × (n ≤ length (now ps)) ⌝ }
+// The bucket of two sets, in the index of the entries.
+fn bucket(u: u64, p: u64) -> usize
+    ensures { λ b. ⌜ (b ≡ bucketOf u p) × (b < 512) ⌝ }
+{
+    (((u % 8191) * 31 + p % 8191) % 512) as usize
+}
+
+// Where the two sets stand among the first n of us and ps, or n. Only the entries of their bucket are looked at, from the newest on.
+fn find(
+    source: u8,
+    us: &[u64],
+    ps: &[u64],
+    heads: &[u16; 512],
+    links: &[u16],
+    n: usize,
+    u: u64,
+    p: u64,
+) -> usize
+    requires { ⌜ (n ≤ length (now us)) × (n ≤ length (now ps)) × (n ≤ length (now links)) × Indexed n (now us) (now ps) (now heads) (now links) ⌝ }
     ensures { λ k. ⌜ k ≡ placeOf same (entryMade source u p) (entriesTo source n (now (us .entry)) (now (ps .entry))) ⌝ }
 {
-    let mut i = 0;
-    while i < n {
-        if us[i] == u {
-            if ps[i] == p {
-                return i;
+    let b = bucket(u, p);
+    let mut c = heads[b] as usize;
+    while 0 < c {
+        let k = c - 1;
+        if us[k] == u {
+            if ps[k] == p {
+                return k;
             }
         }
-        i += 1;
+        c = links[k] as usize;
     }
     n
 }
 
+// Two sets that are not among the first d of us and ps come next, and are the newest of their bucket.
+fn add(
+    us: &mut [u64],
+    ps: &mut [u64],
+    heads: &mut [u16; 512],
+    links: &mut [u16],
+    d: usize,
+    u: u64,
+    p: u64,
+)
+    requires { ⌜ (d < length (now us)) × (d < length (now ps)) × (d < length (now links)) × (d < 33345) ⌝ }
+    requires { ⌜ Indexed d (now us) (now ps) (now heads) (now links) × Absent d (now us) (now ps) u p ⌝ }
+    ensures { λ _. ⌜ (now (us .exit) ≡ set (now (us .entry)) d u) × (now (ps .exit) ≡ set (now (ps .entry)) d p)
+        × Indexed (d + 1) (now (us .exit)) (now (ps .exit)) (now (heads .exit)) (now (links .exit)) ⌝ }
+{
+    let b = bucket(u, p);
+    us[d] = u;
+    ps[d] = p;
+    links[d] = heads[b];
+    heads[b] = (d + 1) as u16;
+}
+
 // The mark of a field: 0 where the role has nothing there, else one more than the place of its two sets, which are among the first d or come next.
-fn mark_field(source: u8, x: Sets, us: &mut [u64], ps: &mut [u64], d: usize) -> usize
-    requires { ⌜ (d < length (now us)) × (d < length (now ps)) ⌝ }
-    ensures { λ m. ⌜ Marked source (keptWith source x) d (now (us .entry)) (now (ps .entry)) (now (us .exit)) (now (ps .exit)) m ⌝ }
+fn mark_field(
+    source: u8,
+    x: Sets,
+    us: &mut [u64],
+    ps: &mut [u64],
+    heads: &mut [u16; 512],
+    links: &mut [u16],
+    d: usize,
+) -> usize
+    requires { ⌜ (d < length (now us)) × (d < length (now ps)) × (d < length (now links)) × (d < 33345) ⌝ }
+    requires { ⌜ Indexed d (now us) (now ps) (now heads) (now links) ⌝ }
+    ensures { λ m. ⌜ Marked source (keptWith source x) d (now (us .entry)) (now (ps .entry)) (now (us .exit)) (now (ps .exit)) m
+        × Indexed (grown d m) (now (us .exit)) (now (ps .exit)) (now (heads .exit)) (now (links .exit)) ⌝ }
 {
     let u = x.users;
     let p = x.permissions;
@@ -88,13 +139,15 @@ fn mark_field(source: u8, x: Sets, us: &mut [u64], ps: &mut [u64], d: usize) -> 
     if p == 0 {
         return 0;
     }
-    let k = find(source, us, ps, d, u, p);
-    us[k] = u;
-    ps[k] = p;
-    k + 1
+    let k = find(source, us, ps, heads, links, d, u, p);
+    if k < d {
+        return k + 1;
+    }
+    add(us, ps, heads, links, d, u, p);
+    d + 1
 }
 
-// The marks of the first n masks, and the sets that they are the places of.
+// The marks of the first n masks, and the sets that they are the places of. `links` is scratch for their index.
 pub fn derive(
     role: Role,
     masks: &[u64],
@@ -102,20 +155,22 @@ pub fn derive(
     us: &mut [u64],
     ps: &mut [u64],
     marks: &mut [u16],
+    links: &mut [u16],
 ) -> Count
-    requires { ⌜ (role .on < 64) × Room n (now masks) (now us) (now ps) (now marks) ⌝ }
+    requires { ⌜ (role .on < 64) × Room n (now masks) (now us) (now ps) (now marks) (now links) ⌝ }
     ensures { λ r. ⌜ Derived role (now (masks .entry)) n (now (us .exit)) (now (ps .exit)) (now (marks .exit)) r ⌝ }
 {
     let source = role.source;
     let on = role.on;
     let users = role.users;
     let permissions = role.permissions;
+    let mut heads = [0u16; 512];
     let mut d = 0;
     let mut rows = 0;
     let mut i = 0;
     while i < n {
         let x = sets_in(on, &users, &permissions, masks[i]);
-        let m = mark_field(source, x, us, ps, d);
+        let m = mark_field(source, x, us, ps, &mut heads, links, d);
         if m == d + 1 {
             d += 1;
         }

@@ -75,12 +75,13 @@ fn derive_role(
     us: &mut [u64],
     ps: &mut [u64],
     marks: &mut [u16],
+    links: &mut [u16],
 ) -> Count
-    requires { ⌜ Located (now s) l × (r < rolesOf (now s)) × Room n (now masks) (now us) (now ps) (now marks) × MasksAre (now s) (now masks) n ⌝ }
+    requires { ⌜ Located (now s) l × (r < rolesOf (now s)) × Room n (now masks) (now us) (now ps) (now marks) (now links) × MasksAre (now s) (now masks) n ⌝ }
     ensures { λ k. ⌜ RoleDerived (now (s .entry)) r n (now (us .exit)) (now (ps .exit)) (now (marks .exit)) k ⌝ }
 {
     let role = role_of(s, l, r);
-    derive::derive(role, masks, n, us, ps, marks)
+    derive::derive(role, masks, n, us, ps, marks, links)
 }
 
 // Counts the derived roles and rows of all roles. It stops as soon as a table of so many is longer than the room, since the length only grows.
@@ -93,8 +94,9 @@ fn count_all(
     us: &mut [u64],
     ps: &mut [u64],
     marks: &mut [u16],
+    links: &mut [u16],
 ) -> Count
-    requires { ⌜ Located (now s) l × Room n (now masks) (now us) (now ps) (now marks) × MasksAre (now s) (now masks) n ⌝ }
+    requires { ⌜ Located (now s) l × Room n (now masks) (now us) (now ps) (now marks) (now links) × MasksAre (now s) (now masks) n ⌝ }
     ensures { λ k. ⌜ CountedTo (now (s .entry)) room k ⌝ }
 {
     let counts = l.counts;
@@ -103,7 +105,7 @@ fn count_all(
     let mut rows = 0;
     let mut r: u8 = 0;
     while r < roles {
-        let k = derive_role(s, l, r, masks, n, us, ps, marks);
+        let k = derive_role(s, l, r, masks, n, us, ps, marks, links);
         d += k.entries;
         rows += k.rows;
         if room < 16 + 17 * d + 16 * rows {
@@ -232,8 +234,9 @@ fn write_all(
     us: &mut [u64],
     ps: &mut [u64],
     marks: &mut [u16],
+    links: &mut [u16],
 )
-    requires { ⌜ Located (now s) l × Laid (now s) (now eras) (now cells) (now masks) ne nc × Room (ne * nc) (now masks) (now us) (now ps) (now marks) ⌝ }
+    requires { ⌜ Located (now s) l × Laid (now s) (now eras) (now cells) (now masks) ne nc × Room (ne * nc) (now masks) (now us) (now ps) (now marks) (now links) ⌝ }
     requires { ⌜ (total ≡ length (rewrite (rotaOf (now s)) .entries)) × (sizeOf (rewrite (rotaOf (now s))) ≤ length (now out)) ⌝ }
     ensures { λ _. ⌜ now (out .exit)
         ≡ sets (sets (now (out .entry)) 16 (joined entryBytes (rewrite (rotaOf (now (s .entry))) .entries))) (16 + 17 * total)
@@ -245,7 +248,7 @@ fn write_all(
     let mut p = 16 + 17 * total;
     let mut r: u8 = 0;
     while r < roles {
-        let k = derive_role(s, l, r, masks, ne * nc, us, ps, marks);
+        let k = derive_role(s, l, r, masks, ne * nc, us, ps, marks, links);
         let m = k.entries;
         write_entries(out, 16 + 17 * d, r, us, ps, m);
         p = write_rows(out, p, d as u32, eras, ne, cells, nc, marks);
@@ -290,8 +293,9 @@ fn write_table(
     us: &mut [u64],
     ps: &mut [u64],
     marks: &mut [u16],
+    links: &mut [u16],
 ) -> Rewritten
-    requires { ⌜ Located (now s) l × Laid (now s) (now eras) (now cells) (now masks) ne nc × CountedTo (now s) (length (now out)) k × Room (ne * nc) (now masks) (now us) (now ps) (now marks) ⌝ }
+    requires { ⌜ Located (now s) l × Laid (now s) (now eras) (now cells) (now masks) ne nc × CountedTo (now s) (length (now out)) k × Room (ne * nc) (now masks) (now us) (now ps) (now marks) (now links) ⌝ }
     ensures { λ r. ⌜ (writtenGiven r ≡ rewriteOutcome (now (s .entry)) (length (now (out .entry)))) × (now (out .exit) ≡ areaAfter (now (s .entry)) (now (out .entry))) ⌝ }
 {
     let d = k.entries;
@@ -307,7 +311,21 @@ fn write_table(
         rows: rows as u32,
     };
     if start_table(out, header, size) {
-        write_all(s, l, out, d, eras, ne, cells, nc, masks, us, ps, marks);
+        write_all(
+            s,
+            l,
+            out,
+            d,
+            eras,
+            ne,
+            cells,
+            nc,
+            masks,
+            us,
+            ps,
+            marks,
+            links,
+        );
         return Rewritten::Wrote {
             derived: d as u32,
             rows: rows as u32,
@@ -330,14 +348,29 @@ fn rewrite_with(
     us: &mut [u64],
     ps: &mut [u64],
     marks: &mut [u16],
+    links: &mut [u16],
 ) -> Rewritten
-    requires { ⌜ Located (now s) l × Divided (now s) (now eras) (now cells) ne nc × Room (ne * nc) (now masks) (now us) (now ps) (now marks) ⌝ }
+    requires { ⌜ Located (now s) l × Divided (now s) (now eras) (now cells) ne nc × Room (ne * nc) (now masks) (now us) (now ps) (now marks) (now links) ⌝ }
     ensures { λ r. ⌜ (writtenGiven r ≡ rewriteOutcome (now (s .entry)) (length (now (out .entry)))) × (now (out .exit) ≡ areaAfter (now (s .entry)) (now (out .entry))) ⌝ }
 {
     let n = l.counts;
     grid::lay(s, n.cycle, n.hours as usize, eras, ne, cells, nc, masks);
-    let k = count_all(s, l, masks, ne * nc, out.len(), us, ps, marks);
-    write_table(s, l, out, k, eras, ne, cells, nc, masks, us, ps, marks)
+    let k = count_all(s, l, masks, ne * nc, out.len(), us, ps, marks, links);
+    write_table(
+        s,
+        l,
+        out,
+        k,
+        eras,
+        ne,
+        cells,
+        nc,
+        masks,
+        us,
+        ps,
+        marks,
+        links,
+    )
 }
 
 // Scratch is cleared before use, so it comes in three sizes, each in a function of its own: a small rota does not pay for the largest.
@@ -357,6 +390,7 @@ fn rewrite_small(
     let mut us = [0u64; 256];
     let mut ps = [0u64; 256];
     let mut marks = [0u16; 256];
+    let mut links = [0u16; 256];
     rewrite_with(
         s,
         l,
@@ -369,6 +403,7 @@ fn rewrite_small(
         &mut us,
         &mut ps,
         &mut marks,
+        &mut links,
     )
 }
 
@@ -388,6 +423,7 @@ fn rewrite_middle(
     let mut us = [0u64; 4096];
     let mut ps = [0u64; 4096];
     let mut marks = [0u16; 4096];
+    let mut links = [0u16; 4096];
     rewrite_with(
         s,
         l,
@@ -400,6 +436,7 @@ fn rewrite_middle(
         &mut us,
         &mut ps,
         &mut marks,
+        &mut links,
     )
 }
 
@@ -420,6 +457,7 @@ fn rewrite_large(
     let mut us = [0u64; 33345];
     let mut ps = [0u64; 33345];
     let mut marks = [0u16; 33345];
+    let mut links = [0u16; 33345];
     rewrite_with(
         s,
         l,
@@ -432,6 +470,7 @@ fn rewrite_large(
         &mut us,
         &mut ps,
         &mut marks,
+        &mut links,
     )
 }
 

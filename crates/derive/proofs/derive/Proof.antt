@@ -1,20 +1,24 @@
 use native.Mathlib.Omega.{arith}
-use mathlib.Core.Path.{_∙_}
+use mathlib.Core.Path.{_≡_, refl, _∙_}
 use mathlib.Core.Logic.{⊎-elim}
 use Prim.Native.Nat.{_-_}
-use Rattle.derive.specs.Derive.{roleMade}
-use Rattle.derive.proofs.DeriveLaws.{Deriving, deriving-start, deriving-turn, deriving-end, grown-yes, grown-no, row-yes, row-no}
+use lib.ListN.{length}
+use Rattle.derive.specs.Derive.{roleMade, grown}
+use Rattle.derive.specs.Index.{Indexed}
+use Rattle.derive.proofs.DeriveLaws.{Deriving, deriving-start, deriving-turn, deriving-end, row-yes, row-no}
+use Rattle.derive.proofs.IndexLaws.{index-none}
+use Rattle.derive.proofs.MarkLaws.{grown-yes, grown-no, index-then}
 use Rattle.derive.proofs.derive.Statement.{statement}
 use Rattle.derive.proofs.derive.Tie as tie
 
 abbrev Inv-loop : tie.InvT-loop
-Inv-loop masks n us₀ ps₀ marks₀ source on users permissions d₀ rows₀ i₀ us ps marks d rows i = Deriving (roleMade source on users permissions) n masks us₀ ps₀ marks₀ us ps marks d rows i
+Inv-loop masks n us₀ ps₀ marks₀ links₀ source on users permissions heads₀ d₀ rows₀ i₀ us ps marks links heads d rows i = Deriving (roleMade source on users permissions) n masks us₀ ps₀ marks₀ us ps marks d rows i × Indexed d us ps heads links × (length links ≡ length links₀)
 
 abbrev μ-loop : tie.MeasureT-loop
-μ-loop masks n us₀ ps₀ marks₀ source on users permissions d₀ rows₀ i₀ us ps marks d rows i = n - i
+μ-loop masks n us₀ ps₀ marks₀ links₀ source on users permissions heads₀ d₀ rows₀ i₀ us ps marks links heads d rows i = n - i
 
 loop-holds : tie.Need-loop-holds Inv-loop μ-loop
-loop-holds c = deriving-start _ _ _ _ _ _
+loop-holds c = (deriving-start _ _ _ _ _ _, index-none _ _ _, refl)
 
 mul-sets-in : tie.Need-mul-sets-in Inv-loop μ-loop
 mul-sets-in c = omega arith
@@ -23,10 +27,11 @@ shared-slice-read-sets-in : tie.Need-shared-slice-read-sets-in Inv-loop μ-loop
 shared-slice-read-sets-in c = omega arith
 
 sets-in-requires : tie.Need-sets-in-requires Inv-loop μ-loop
-sets-in-requires c κs = omega (arith, c .before .before .before .before .before .before .before .before .before .before .before .pre)
+sets-in-requires c κs = omega (arith, c .before .before .before .before .before .before .before .before .before .before .before .before .pre)
 
 mark-field-requires : tie.Need-mark-field-requires Inv-loop μ-loop
-mark-field-requires c κs = omega arith
+mark-field-requires c κs = let l = c .before .before .before .before .before .before .before .before .before .loop in let p = c .before .before .before .before .before .before .before .before .before .before .before .before .before .before .before .before .before .pre .1 in
+    ((omega arith, omega arith, omega (arith, p .for-links, l .inv .2), omega (arith, p .few)), l .inv .1)
 
 add-if1 : tie.Need-add-if1 Inv-loop μ-loop
 add-if1 c = omega arith
@@ -38,7 +43,7 @@ add-rows : tie.Need-add-rows Inv-loop μ-loop
 add-rows c = omega arith
 
 cast-marks : tie.Need-cast-marks Inv-loop μ-loop
-cast-marks c = omega (arith, c .before .before .before .before .before .before .before .before .before .before .before .before .before .before .before .before .before .before .before .before .before .pre .1, c .before .before .before .before .before .before .mark-field .ensures .small)
+cast-marks c = omega (arith, c .before .before .before .before .before .before .before .before .before .before .before .before .before .before .before .before .before .before .before .before .before .before .before .before .before .before .pre .1, c .before .before .before .before .before .before .before .before .mark-field .ensures .0 .small)
 
 mul-marks : tie.Need-mul-marks Inv-loop μ-loop
 mul-marks c = omega arith
@@ -53,29 +58,36 @@ loop-less : tie.Need-loop-less Inv-loop μ-loop
 loop-less c = omega arith
 
 loop-again : tie.Need-loop-again Inv-loop μ-loop
-loop-again c = let l = c .before .before .before .before .before .before .before .before .before .before .before .before .before .before .loop in
-    let a = c .before .before .before .before .before .before .before .before .before .before .before .before .before .before .before .before .before .before .before .before .before .args in
-    let p = c .before .before .before .before .before .before .before .before .before .before .before .before .before .before .before .before .before .before .before .before .before .pre .1 in
-    let k = c .before .before .before .before .before .before .mark-field in
-    deriving-turn _ (a .n) (a .masks .now) (a .us .now) (a .ps .now) (a .marks .now) (l .us) (l .ps) (l .marks) (l .d) (l .rows) (l .i) (p .for-masks) (p .for-marks) (l .inv)
-    _ _ _ (k .result) (c .before .if1 .d) (c .if2 .rows) (omega (arith, c .before .before .before .before .before .before .before .before .before .before .before .before .before)) (c .before .before .before .before .before .before .before .before .before .sets-in .ensures) (k .ensures) (k .kept .1 .1 .0) (k .kept .1 .1 .1 .0)
-    (⊎-elim (λ w. w .1 ∙ grown-yes (l .d) (k .result) (w .0 .taken)) (λ w. w .1 ∙ grown-no (l .d) (k .result) (w .0 .left)) (c .before .if1 .came))
-    (⊎-elim (λ w. w .1 ∙ row-yes (l .rows) (k .result) (w .0 .taken)) (λ w. w .1 ∙ row-no (l .rows) (k .result) (w .0 .left)) (c .if2 .came))
+loop-again c = let l = c .before .before .before .before .before .before .before .before .before .before .before .before .before .before .before .before .before .before .loop in
+    let a = c .before .before .before .before .before .before .before .before .before .before .before .before .before .before .before .before .before .before .before .before .before .before .before .before .before .before .args in
+    let p = c .before .before .before .before .before .before .before .before .before .before .before .before .before .before .before .before .before .before .before .before .before .before .before .before .before .before .pre .1 in
+    let k = c .before .before .before .before .before .before .before .before .mark-field in
+    let g : c .before .if1 .d ≡ grown (l .d) (k .result) = ⊎-elim (λ w. w .1 ∙ grown-yes (l .d) (k .result) (w .0 .taken)) (λ w. w .1 ∙ grown-no (l .d) (k .result) (w .0 .left)) (c .before .if1 .came) in (
+      deriving-turn _ (a .n) (a .masks .now) (a .us .now) (a .ps .now) (a .marks .now) (l .us) (l .ps) (l .marks) (l .d) (l .rows) (l .i) (p .for-masks) (p .for-marks) (l .inv .0)
+          _ _ _ (k .result) (c .before .if1 .d) (c .if2 .rows) (omega (arith, c .before .before .before .before .before .before .before .before .before .before .before .before .before)) (c .before .before .before .before .before .before .before .before .before .before .before .before .before .sets-in .ensures) (k .ensures .0) (k .kept .1 .1 .0) (k .kept .1 .1 .1 .0)
+          g
+          (⊎-elim (λ w. w .1 ∙ row-yes (l .rows) (k .result) (w .0 .taken)) (λ w. w .1 ∙ row-no (l .rows) (k .result) (w .0 .left)) (c .if2 .came)),
+      index-then g (k .ensures .1),
+      k .kept .1 .1 .1 .1 .1 .0 ∙ l .inv .2,
+    )
 
 same-length : tie.Need-same-length Inv-loop μ-loop
-same-length c = c .before .loop .inv .long-users
+same-length c = c .before .loop .inv .0 .long-users
 
 same-length-2 : tie.Need-same-length-2 Inv-loop μ-loop
-same-length-2 c = c .before .loop .inv .long-permissions
+same-length-2 c = c .before .loop .inv .0 .long-permissions
 
 same-length-3 : tie.Need-same-length-3 Inv-loop μ-loop
-same-length-3 c = c .before .loop .inv .long-marks
+same-length-3 c = c .before .loop .inv .0 .long-marks
+
+same-length-4 : tie.Need-same-length-4 Inv-loop μ-loop
+same-length-4 c = c .before .loop .inv .2
 
 returns : tie.Need-returns Inv-loop μ-loop
 returns c = let l = c .before .loop in
-    let a = c .before .before .before .before .before .before .before .before .args in
-    let p = c .before .before .before .before .before .before .before .before .pre .1 in
-    deriving-end _ (a .n) (a .masks .now) (a .us .now) (a .ps .now) (a .marks .now) (l .us) (l .ps) (l .marks) (l .d) (l .rows) (l .i) (p .for-masks) (p .for-marks) (l .inv) (omega arith) (p .for-users) (p .for-permissions)
+    let a = c .before .before .before .before .before .before .before .before .before .args in
+    let p = c .before .before .before .before .before .before .before .before .before .pre .1 in
+    deriving-end _ (a .n) (a .masks .now) (a .us .now) (a .ps .now) (a .marks .now) (l .us) (l .ps) (l .marks) (l .d) (l .rows) (l .i) (p .for-masks) (p .for-marks) (l .inv .0) (omega arith) (p .for-users) (p .for-permissions)
 
 pub derive-spec : {M : Type 1} → statement M
 derive-spec =
@@ -100,4 +112,5 @@ derive-spec =
     same-length
     same-length-2
     same-length-3
+    same-length-4
     returns)

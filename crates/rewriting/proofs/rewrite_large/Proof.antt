@@ -17,8 +17,11 @@ slice-aggregate-rewrite-with-3 c = search needs
 slice-aggregate-rewrite-with-4 : tie.Need-slice-aggregate-rewrite-with-4
 slice-aggregate-rewrite-with-4 c = search needs
 
+slice-aggregate-rewrite-with-5 : tie.Need-slice-aggregate-rewrite-with-5
+slice-aggregate-rewrite-with-5 c = search needs
+
 rewrite-with-requires : tie.Need-rewrite-with-requires
-rewrite-with-requires c κs = let p = c .before .before .before .before .before .before .before .pre in (p .0, p .1, room-of (fields-few (p .1)) (fields-few (p .1)) (omega arith) (omega arith) (omega arith) (omega arith))
+rewrite-with-requires c κs = let p = c .before .before .before .before .before .before .before .before .pre in (p .0, p .1, room-of (fields-few (p .1)) (fields-few (p .1)) (omega arith) (omega arith) (omega arith) (omega arith) (omega arith))
 
 same-length : tie.Need-same-length
 same-length c = search needs
@@ -34,6 +37,7 @@ rewrite-large-spec =
     slice-aggregate-rewrite-with-2
     slice-aggregate-rewrite-with-3
     slice-aggregate-rewrite-with-4
+    slice-aggregate-rewrite-with-5
     rewrite-with-requires
     same-length
     returns)

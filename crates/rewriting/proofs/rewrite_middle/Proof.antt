@@ -16,8 +16,11 @@ slice-aggregate-rewrite-with-3 c = search needs
 slice-aggregate-rewrite-with-4 : tie.Need-slice-aggregate-rewrite-with-4
 slice-aggregate-rewrite-with-4 c = search needs
 
+slice-aggregate-rewrite-with-5 : tie.Need-slice-aggregate-rewrite-with-5
+slice-aggregate-rewrite-with-5 c = search needs
+
 rewrite-with-requires : tie.Need-rewrite-with-requires
-rewrite-with-requires c κs = let p = c .before .before .before .before .before .before .before .pre in (p .0, p .1, room-of (omega (arith, p .2)) (p .2) (omega arith) (omega arith) (omega arith) (omega arith))
+rewrite-with-requires c κs = let p = c .before .before .before .before .before .before .before .before .pre in (p .0, p .1, room-of (omega (arith, p .2)) (p .2) (omega arith) (omega arith) (omega arith) (omega arith) (omega arith))
 
 same-length : tie.Need-same-length
 same-length c = search needs
@@ -33,6 +36,7 @@ rewrite-middle-spec =
     slice-aggregate-rewrite-with-2
     slice-aggregate-rewrite-with-3
     slice-aggregate-rewrite-with-4
+    slice-aggregate-rewrite-with-5
     rewrite-with-requires
     same-length
     returns)

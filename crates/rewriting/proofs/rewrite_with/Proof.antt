@@ -1,5 +1,5 @@
 use native.Mathlib.Omega.{arith}
-use Rattle.rewriting.proofs.ScratchLaws.{lent-start, lent-on, room-kept, masks-kept}
+use Rattle.rewriting.proofs.ScratchLaws.{lent-start, lent-on, room-kept}
 use Rattle.rewriting.proofs.TableLaws.{lay-asks}
 use borrow.Author.Needs.{needs}
 use Rattle.rewriting.proofs.rewrite_with.Statement.{statement}
@@ -9,23 +9,23 @@ cast-lay : tie.Need-cast-lay
 cast-lay c = search needs
 
 lay-requires : tie.Need-lay-requires
-lay-requires c κs = let a = c .before .before .before .before .before .before .before .before .before .before .before .args in let p = c .before .before .before .before .before .before .before .before .before .before .before .pre in (lay-asks (a .s .now) (a .l) (p .0), (p .1, p .2 .for-masks))
+lay-requires c κs = let a = c .before .before .before .before .before .before .before .before .before .before .before .before .args in let p = c .before .before .before .before .before .before .before .before .before .before .before .before .pre in (lay-asks (a .s .now) (a .l) (p .0), (p .1, p .2 .for-masks))
 
 mul-count-all : tie.Need-mul-count-all
-mul-count-all c = omega (arith, c .before .before .before .before .before .before .before .before .before .before .before .before .before .before .before .pre .2 .few)
+mul-count-all c = omega (arith, c .before .before .before .before .before .before .before .before .before .before .before .before .before .before .before .before .pre .2 .few)
 
 count-all-requires : tie.Need-count-all-requires
-count-all-requires c κs = let p = c .before .before .before .before .before .before .before .before .before .before .before .before .before .before .before .before .before .before .pre in (p .0, masks-kept (c .before .before .before .before .before .before .lay .kept .1 .1 .1 .1 .1 .1 .1 .0) (p .2), c .before .before .before .before .before .before .lay .ensures .masks-are)
+count-all-requires c κs = let p = c .before .before .before .before .before .before .before .before .before .before .before .before .before .before .before .before .before .before .before .before .pre in (p .0, room-kept (lent-start _ _ _ _) (c .before .before .before .before .before .before .before .lay .kept .1 .1 .1 .1 .1 .1 .1 .0) (p .2), c .before .before .before .before .before .before .before .lay .ensures .masks-are)
 
 write-table-requires : tie.Need-write-table-requires
-write-table-requires c κs = let p = c .before .before .before .before .before .before .before .before .before .before .before .before .before .before .before .before .before .before .before .before .before .before .before .before .before .before .before .before .before .before .pre in let k = c .before .before .before .before .before .before .before .before .before .before .before .count-all in
-    (p .0, c .before .before .before .before .before .before .before .before .before .before .before .before .before .before .before .before .before .before .lay .ensures, k .ensures, room-kept (lent-on (lent-start _ _ _) (k .kept .1 .1 .1 .1 .1 .0) (k .kept .1 .1 .1 .1 .1 .1 .0) (k .kept .1 .1 .1 .1 .1 .1 .1 .0)) (masks-kept (c .before .before .before .before .before .before .before .before .before .before .before .before .before .before .before .before .before .before .lay .kept .1 .1 .1 .1 .1 .1 .1 .0) (p .2)))
+write-table-requires c κs = let p = c .before .before .before .before .before .before .before .before .before .before .before .before .before .before .before .before .before .before .before .before .before .before .before .before .before .before .before .before .before .before .before .before .before .before .before .pre in let k = c .before .before .before .before .before .before .before .before .before .before .before .before .before .before .count-all in
+    (p .0, c .before .before .before .before .before .before .before .before .before .before .before .before .before .before .before .before .before .before .before .before .before .before .lay .ensures, k .ensures, room-kept (lent-on (lent-start _ _ _ _) (k .kept .1 .1 .1 .1 .1 .0) (k .kept .1 .1 .1 .1 .1 .1 .0) (k .kept .1 .1 .1 .1 .1 .1 .1 .0) (k .kept .1 .1 .1 .1 .1 .1 .1 .1 .0)) (c .before .before .before .before .before .before .before .before .before .before .before .before .before .before .before .before .before .before .before .before .before .before .lay .kept .1 .1 .1 .1 .1 .1 .1 .0) (p .2))
 
 same-length : tie.Need-same-length
 same-length c = search needs
 
 same-length-2 : tie.Need-same-length-2
-same-length-2 c = search needs
+same-length-2 c = c .before .before .before .before .before .before .before .before .before .before .before .before .before .before .before .before .before .before .before .before .before .before .before .before .before .before .before .before .before .before .before .before .before .lay .kept .1 .1 .1 .1 .1 .1 .1 .0
 
 same-length-3 : tie.Need-same-length-3
 same-length-3 c = search needs
@@ -35,6 +35,9 @@ same-length-4 c = search needs
 
 same-length-5 : tie.Need-same-length-5
 same-length-5 c = search needs
+
+same-length-6 : tie.Need-same-length-6
+same-length-6 c = search needs
 
 returns : tie.Need-returns
 returns c = search needs
@@ -53,4 +56,5 @@ rewrite-with-spec =
     same-length-3
     same-length-4
     same-length-5
+    same-length-6
     returns)

@@ -16,25 +16,25 @@ mul-size-2 c = search needs
 add-size-2 : tie.Need-add-size-2
 add-size-2 c = search needs
 
-cast-t21 : tie.Need-cast-t21
-cast-t21 c = search needs
-
 cast-t22 : tie.Need-cast-t22
 cast-t22 c = search needs
 
+cast-t23 : tie.Need-cast-t23
+cast-t23 c = search needs
+
 start-table-requires : tie.Need-start-table-requires
-start-table-requires c κs = let a = c .before .before .before .before .before .before .before .before .args in (header-fits (a .s .now) (a .l) (c .before .before .before .before .before .before .before .before .pre .0) (a .k .entries) (a .k .rows), omega arith)
+start-table-requires c κs = let a = c .before .before .before .before .before .before .before .before .before .args in (header-fits (a .s .now) (a .l) (c .before .before .before .before .before .before .before .before .before .pre .0) (a .k .entries) (a .k .rows), omega arith)
 
 write-all-requires : tie.Need-write-all-requires
-write-all-requires c κs = let a = c .before .before .before .before .before .before .before .before .before .before .before .before .before .before .before .before .args in let p = c .before .before .before .before .before .before .before .before .before .before .before .before .before .before .before .before .pre in let t = c .before .before .before .before .before .before .before .start-table in
-    let g = can-write (a .s .now) (a .l) (p .0) (a .out .now) (a .k) (p .2) (t .result) _ (t .ensures .0) (t .ensures .1) (c .before .before .before .before .if1 .taken) in
+write-all-requires c κs = let a = c .before .before .before .before .before .before .before .before .before .before .before .before .before .before .before .before .before .before .args in let p = c .before .before .before .before .before .before .before .before .before .before .before .before .before .before .before .before .before .before .pre in let t = c .before .before .before .before .before .before .before .before .start-table in
+    let g = can-write (a .s .now) (a .l) (p .0) (a .out .now) (a .k) (p .2) (t .result) _ (t .ensures .0) (t .ensures .1) (c .before .before .before .before .before .if1 .taken) in
     ((p .0, p .1, p .3), g)
 
-cast-t35 : tie.Need-cast-t35
-cast-t35 c = search needs
+cast-t38 : tie.Need-cast-t38
+cast-t38 c = search needs
 
-cast-t36 : tie.Need-cast-t36
-cast-t36 c = search needs
+cast-t39 : tie.Need-cast-t39
+cast-t39 c = search needs
 
 same-length : tie.Need-same-length
 same-length c = search needs
@@ -48,15 +48,18 @@ same-length-3 c = search needs
 same-length-4 : tie.Need-same-length-4
 same-length-4 c = search needs
 
-returns : tie.Need-returns
-returns c = let a = c .before .before .before .before .before .before .before .before .before .before .before .before .before .before .before .before .before .before .before .before .before .before .before .before .before .args in let p = c .before .before .before .before .before .before .before .before .before .before .before .before .before .before .before .before .before .before .before .before .before .before .before .before .before .pre in let t = c .before .before .before .before .before .before .before .before .before .before .before .before .before .before .before .before .start-table in
-    has-written (a .s .now) (a .l) (p .0) (a .out .now) (a .k) (p .2) (t .result) _ (t .ensures .0) (t .ensures .1) (c .before .before .before .before .before .before .before .before .before .before .before .before .before .if1 .taken) _ (c .before .before .before .before .before .before .before .before .write-all .ensures)
-
 same-length-5 : tie.Need-same-length-5
 same-length-5 c = search needs
 
+returns : tie.Need-returns
+returns c = let a = c .before .before .before .before .before .before .before .before .before .before .before .before .before .before .before .before .before .before .before .before .before .before .before .before .before .before .before .before .before .args in let p = c .before .before .before .before .before .before .before .before .before .before .before .before .before .before .before .before .before .before .before .before .before .before .before .before .before .before .before .before .before .pre in let t = c .before .before .before .before .before .before .before .before .before .before .before .before .before .before .before .before .before .before .before .start-table in
+    has-written (a .s .now) (a .l) (p .0) (a .out .now) (a .k) (p .2) (t .result) _ (t .ensures .0) (t .ensures .1) (c .before .before .before .before .before .before .before .before .before .before .before .before .before .before .before .before .if1 .taken) _ (c .before .before .before .before .before .before .before .before .before .before .write-all .ensures)
+
+same-length-6 : tie.Need-same-length-6
+same-length-6 c = search needs
+
 returns-2 : tie.Need-returns-2
-returns-2 c = let a = c .before .before .before .before .before .before .before .before .before .before .before .before .args in let p = c .before .before .before .before .before .before .before .before .before .before .before .before .pre in let t = c .before .before .before .start-table in
+returns-2 c = let a = c .before .before .before .before .before .before .before .before .before .before .before .before .before .args in let p = c .before .before .before .before .before .before .before .before .before .before .before .before .before .pre in let t = c .before .before .before .start-table in
     has-not (a .s .now) (a .l) (p .0) (a .out .now) (a .k) (p .2) (t .result) _ (t .ensures .0) (t .ensures .1) (c .if1 .left)
 
 pub write-table-spec : {M : Type 1} → statement M
@@ -67,16 +70,17 @@ write-table-spec =
     add-size
     mul-size-2
     add-size-2
-    cast-t21
     cast-t22
+    cast-t23
     start-table-requires
     write-all-requires
-    cast-t35
-    cast-t36
+    cast-t38
+    cast-t39
     same-length
     same-length-2
     same-length-3
     same-length-4
-    returns
     same-length-5
+    returns
+    same-length-6
     returns-2)
