@@ -1,4 +1,5 @@
 pub mod FindLaws
+pub mod UnionLaws
 pub mod IndexLaws
 pub mod MarkLaws
 pub mod DeriveLaws

@@ -1,5 +1,6 @@
 -- A role by slots gives in a field with a mask what the rota's rows give.
 --     slot-small      a reference that names a record has a slot below 33
+--     union-lt        a union is a set of the numbers 0 to 63
 --     kept-by         the law itself
 -- Assumes nothing.
 use Prim.Native.Nat.{ℕ, zero, suc, _^_, _≤_, _<_}
@@ -120,7 +121,7 @@ module _ (m : ℕ) where
       go true h = has-union (unionOf sets m k) (getD sets k 0) x l ∙ ap (λ (b : Bool). b || has (getD sets k 0) x) h
       go false h = h ∙ or-no (anyBelow k (λ j. has m j && has (getD sets j 0) x))
 
-  union-lt : (sets : List ℕ) (k : ℕ) → unionOf sets m k < 2 ^ 64
+  pub union-lt : (sets : List ℕ) (k : ℕ) → unionOf sets m k < 2 ^ 64
   unfolding unionOf union
   union-lt sets zero = pow-pos 64
   union-lt sets (suc k) = go (has m k) (union-lt sets k)

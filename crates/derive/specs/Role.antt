@@ -1,6 +1,6 @@
 -- A role by hours: what it has in a field with a given mask, and the role that a rota's rows make.
 use Prim.Native.Nat.{ℕ, zero, suc}
-use mathlib.Core.Bool.{not, _&&_}
+use mathlib.Core.Bool.{Bool, not, _&&_}
 use mathlib.Core.Option.{Option, none, some}
 use mathlib.Core.List.{List}
 use lib.Dec.{eqb}
@@ -20,6 +20,13 @@ use Rattle.derive.specs.declared.Sets.{Sets}
 unfoldable pub unionOf : List ℕ → ℕ → ℕ → ℕ
 unionOf sets m zero = 0
 unionOf sets m (suc k) = pick (has m k) (union (unionOf sets m k) (getD sets k 0)) (unionOf sets m k)
+
+-- a slot is in use where its set is not empty
+abbrev pub inUse : List ℕ → ℕ → Bool
+inUse sets k = not (eqb (getD sets k 0) 0)
+
+unfoldable pub usedIn : List ℕ → ℕ
+usedIn sets = setOf 33 (inUse sets)
 
 abbrev pub setsMade : ℕ → ℕ → Sets
 setsMade users permissions = record { users = users; permissions = permissions }

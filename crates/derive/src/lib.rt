@@ -5,7 +5,7 @@ ghost use lib.ListN.{length, set};
 ghost use Rattle.table.specs.Answers.{entryMade};
 ghost use Rattle.derivation.specs.Distinct.{placeOf};
 ghost use Rattle.derivation.specs.Rewriting.{same};
-ghost use Rattle.derive.specs.Role.{unionOf, setsIn, keptWith};
+ghost use Rattle.derive.specs.Role.{usedIn, unionOf, setsIn, keptWith};
 ghost use Rattle.derive.specs.Index.{bucketOf, Indexed, Absent};
 ghost use Rattle.derive.specs.Derive.{entriesTo, grown, Marked, Room, Derived};
 
@@ -27,29 +27,60 @@ pub struct Count {
     pub rows: usize,
 }
 
-// The union of those of the 33 sets whose slots are in the mask.
-fn union_in(sets: &[u64; 33], mask: u64) -> u64
+// The slots whose sets are not empty.
+fn used_in(sets: &[u64; 33]) -> u64
+    ensures { λ r. ⌜ r ≡ usedIn (now (sets .entry)) ⌝ }
+{
+    let mut used = 0;
+    for k in 0..33u32 {
+        let i = k as usize;
+        if sets[i] != 0 {
+            used = bitset::with(used, k);
+        }
+    }
+    used
+}
+
+// The union of those of the 33 sets whose slots are in the mask. Only slots in use are visited, from the lowest on.
+fn union_in(sets: &[u64; 33], used: u64, mask: u64) -> u64
+    requires { ⌜ used ≡ usedIn (now sets) ⌝ }
     ensures { λ r. ⌜ r ≡ unionOf (now (sets .entry)) mask 33 ⌝ }
 {
+    let slots = bitset::both(mask, used);
     let mut all = 0;
-    for k in 0..33u32 {
-        if bitset::contains(mask, k) {
-            let i = k as usize;
-            all = bitset::either(all, sets[i]);
+    let mut next: u32 = 0;
+    while next < 33 {
+        let rest = slots >> next;
+        if rest == 0 {
+            return all;
         }
+        let k = next + bitset::lowest(rest);
+        if 33 <= k {
+            return all;
+        }
+        let i = k as usize;
+        all = bitset::either(all, sets[i]);
+        next = k + 1;
     }
     all
 }
 
 // What a role that is enabled in slot `on` has in a field with this mask; nothing where it is not enabled.
-fn sets_in(on: u32, users: &[u64; 33], permissions: &[u64; 33], mask: u64) -> Sets
-    requires { ⌜ on < 64 ⌝ }
+fn sets_in(
+    on: u32,
+    users: &[u64; 33],
+    user_slots: u64,
+    permissions: &[u64; 33],
+    permission_slots: u64,
+    mask: u64,
+) -> Sets
+    requires { ⌜ (on < 64) × («user_slots» ≡ usedIn (now users)) × («permission_slots» ≡ usedIn (now permissions)) ⌝ }
     ensures { λ r. ⌜ r ≡ setsIn on (now (users .entry)) (now (permissions .entry)) mask ⌝ }
 {
     if bitset::contains(mask, on) {
         Sets {
-            users: union_in(users, mask),
-            permissions: union_in(permissions, mask),
+            users: union_in(users, user_slots, mask),
+            permissions: union_in(permissions, permission_slots, mask),
         }
     } else {
         Sets {
@@ -164,12 +195,21 @@ pub fn derive(
     let on = role.on;
     let users = role.users;
     let permissions = role.permissions;
+    let user_slots = used_in(&users);
+    let permission_slots = used_in(&permissions);
     let mut heads = [0u16; 512];
     let mut d = 0;
     let mut rows = 0;
     let mut i = 0;
     while i < n {
-        let x = sets_in(on, &users, &permissions, masks[i]);
+        let x = sets_in(
+            on,
+            &users,
+            user_slots,
+            &permissions,
+            permission_slots,
+            masks[i],
+        );
         let m = mark_field(source, x, us, ps, &mut heads, links, d);
         if m == d + 1 {
             d += 1;

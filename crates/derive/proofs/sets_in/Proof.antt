@@ -5,13 +5,13 @@ use Rattle.derive.proofs.sets_in.Statement.{statement}
 use Rattle.derive.proofs.sets_in.Tie as tie
 
 contains-requires : tie.Need-contains-requires
-contains-requires c κs = search needs
+contains-requires c κs = c .pre .0
 
 union-in-requires : tie.Need-union-in-requires
-union-in-requires c κs = search needs
+union-in-requires c κs = c .before .before .pre .1
 
 union-in-requires-2 : tie.Need-union-in-requires-2
-union-in-requires-2 c κs = search needs
+union-in-requires-2 c κs = c .before .before .before .pre .2
 
 returns : tie.Need-returns
 returns c = let a = c .before .before .before .before .args in enabled-sets (a .on) (a .users .now) (a .permissions .now) (a .mask) _ _ (sym (c .before .before .before .contains .ensures) ∙ c .before .before .if1 .taken) (c .before .union-in .ensures) (c .union-in2 .ensures)

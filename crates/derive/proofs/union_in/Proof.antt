@@ -1,52 +1,73 @@
 use native.Mathlib.Omega.{arith}
-use mathlib.Core.Path.{_≡_, sym, ap, _∙_}
-use mathlib.Core.Logic.{⊎-elim}
+use mathlib.Core.Path.{_≡_, ap, _∙_}
 use Prim.Native.Nat.{_-_, _≤_}
+use Rattle.bitset.specs.Sets.{intersection}
 use Rattle.derive.specs.Role.{unionOf}
-use Rattle.derive.proofs.FindLaws.{union-none, union-with, union-without}
+use Rattle.derive.proofs.FindLaws.{union-none}
+use Rattle.derive.proofs.UnionLaws.{union-done, union-past, union-turn}
+use borrow.Author.Needs.{needs}
 use Rattle.derive.proofs.union_in.Statement.{statement}
 use Rattle.derive.proofs.union_in.Tie as tie
 
 abbrev Inv-loop : tie.InvT-loop
-Inv-loop sets mask all₀ k₀ all k = (k ≤ 33) × (all ≡ unionOf sets mask k)
+Inv-loop sets used mask slots all₀ next₀ all next = (next ≤ 33) × (all ≡ unionOf sets mask next)
 
 abbrev μ-loop : tie.MeasureT-loop
-μ-loop sets mask all₀ k₀ all k = 33 - k
+μ-loop sets used mask slots all₀ next₀ all next = 33 - next
+
+both-requires : tie.Need-both-requires Inv-loop μ-loop
+both-requires c κs = search needs
 
 loop-holds : tie.Need-loop-holds Inv-loop μ-loop
 loop-holds c = (omega arith, union-none _ _)
 
-contains-requires : tie.Need-contains-requires Inv-loop μ-loop
-contains-requires c κs = omega arith
+cast-rest : tie.Need-cast-rest Inv-loop μ-loop
+cast-rest c = omega arith
 
-cast-i : tie.Need-cast-i Inv-loop μ-loop
-cast-i c = omega arith
-
-mul-either : tie.Need-mul-either Inv-loop μ-loop
-mul-either c = omega arith
-
-element-copy-out-either : tie.Need-element-copy-out-either Inv-loop μ-loop
-element-copy-out-either c = omega arith
-
-either-requires : tie.Need-either-requires Inv-loop μ-loop
-either-requires c κs = omega arith
-
-add-k : tie.Need-add-k Inv-loop μ-loop
-add-k c = omega arith
-
-loop-less : tie.Need-loop-less Inv-loop μ-loop
-loop-less c = omega arith
-
-loop-again : tie.Need-loop-again Inv-loop μ-loop
-loop-again c = let l = c .before .before .before .loop in
-    let a = c .before .before .before .before .args in (
-      omega arith,
-      ⊎-elim (λ w. union-with (a .sets .now) (a .mask) (l .k) (l .all) (l .inv .1) _ (sym (c .before .contains .ensures) ∙ w .0 .taken) (w .3 ∙ w .2 .ensures))
-          (λ w. union-without (a .sets .now) (a .mask) (l .k) (l .all) (l .inv .1) _ (sym (c .before .contains .ensures) ∙ w .0 .left) (w .1)) (c .if1 .came),
-    )
+shr-rest : tie.Need-shr-rest Inv-loop μ-loop
+shr-rest c = omega arith
 
 returns : tie.Need-returns Inv-loop μ-loop
-returns c = let l = c .before .loop in let e : l .k ≡ 33 = omega arith in l .inv .1 ∙ ap (unionOf (c .before .before .args .sets .now) (c .before .before .args .mask)) e
+returns c = let a = c .before .before .before .before .args in let l = c .before .before .loop in let s = c .before .before .before .both in
+    union-done (a .sets .now) (a .mask) (s .result) (s .ensures ∙ ap (intersection (a .mask)) (c .before .before .before .before .pre)) (l .all) (l .next) (l .inv .1) (l .inv .0) (c .if1 .taken)
+
+lowest-requires : tie.Need-lowest-requires Inv-loop μ-loop
+lowest-requires c κs = omega arith
+
+add-k : tie.Need-add-k Inv-loop μ-loop
+add-k c = omega (arith, c .lowest .ensures .1)
+
+returns-2 : tie.Need-returns-2 Inv-loop μ-loop
+returns-2 c = let a = c .before .before .before .before .before .before .args in let l = c .before .before .before .before .loop in let s = c .before .before .before .before .before .both in let r = c .before .lowest in
+    union-past (a .sets .now) (a .mask) (s .result) (s .ensures ∙ ap (intersection (a .mask)) (c .before .before .before .before .before .before .pre)) (l .all) (l .next) (l .inv .1) (l .inv .0) (r .result) (r .ensures .0) (c .if2 .taken)
+
+cast-i : tie.Need-cast-i Inv-loop μ-loop
+cast-i c = omega (arith, c .if2 .left)
+
+mul-either : tie.Need-mul-either Inv-loop μ-loop
+mul-either c = omega (arith, c .if2 .left)
+
+element-copy-out-either : tie.Need-element-copy-out-either Inv-loop μ-loop
+element-copy-out-either c = omega (arith, c .if2 .left)
+
+either-requires : tie.Need-either-requires Inv-loop μ-loop
+either-requires c κs = search needs
+
+add-next : tie.Need-add-next Inv-loop μ-loop
+add-next c = omega (arith, c .before .before .if2 .left)
+
+loop-less : tie.Need-loop-less Inv-loop μ-loop
+loop-less c = omega (arith, c .before .before .if2 .left)
+
+loop-again : tie.Need-loop-again Inv-loop μ-loop
+loop-again c = let a = c .before .before .before .before .before .before .before .before .args in let l = c .before .before .before .before .before .before .loop in let s = c .before .before .before .before .before .before .before .both in let r = c .before .before .before .lowest in (
+  omega (arith, c .before .before .if2 .left),
+  union-turn (a .sets .now) (a .mask) (s .result) (s .ensures ∙ ap (intersection (a .mask)) (c .before .before .before .before .before .before .before .before .pre)) (l .all) (l .next) (l .inv .1) (l .inv .0) (r .result) (r .ensures .0) _
+      (omega (arith, c .before .before .if2 .left)) (c .either .ensures),
+)
+
+returns-3 : tie.Need-returns-3 Inv-loop μ-loop
+returns-3 c = let l = c .before .loop in let e : l .next ≡ 33 = omega arith in l .inv .1 ∙ ap (unionOf (c .before .before .before .args .sets .now) (c .before .before .before .args .mask)) e
 
 pub union-in-spec : {M : Type 1} → statement M
 union-in-spec =
@@ -54,13 +75,19 @@ union-in-spec =
     (tie.spec
     Inv-loop
     μ-loop
+    both-requires
     loop-holds
-    contains-requires
+    cast-rest
+    shr-rest
+    returns
+    lowest-requires
+    add-k
+    returns-2
     cast-i
     mul-either
     element-copy-out-either
     either-requires
-    add-k
+    add-next
     loop-less
     loop-again
-    returns)
+    returns-3)
