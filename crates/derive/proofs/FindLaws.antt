@@ -80,7 +80,7 @@ pub left-none : (source n : ℕ) (us ps : List ℕ) → n ≤ length us → entr
 unfolding entriesWith
 left-none source n us ps h = ap (λ (l : List ℕ). entriesWith source l (drop n (take n ps))) (no-drop n us h)
 
-and-no : (b : Bool) → (b && false) ≡ false
+pub and-no : (b : Bool) → (b && false) ≡ false
 and-no true = refl
 and-no false = refl
 

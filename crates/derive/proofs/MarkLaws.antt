@@ -12,7 +12,7 @@ use lib.ListN.{length, getD, take, set}
 use lib.Seq.{length-take-le, take-suc-set, getD-take}
 use borrow.Author.Tests.{eq-eqb, ne-eqb}
 use Rattle.ground.specs.Choice.{pick}
-use Rattle.ground.proofs.BoolLaws.{T→eq}
+use Rattle.ground.proofs.BoolLaws.{T→eq, clash}
 use Rattle.ground.specs.Search.{any}
 use Rattle.table.specs.Table.{Entry}
 use Rattle.table.specs.Answers.{entryMade}
@@ -22,6 +22,7 @@ use Rattle.derive.specs.declared.Sets.{Sets}
 use Rattle.derive.specs.Role.{entryOf, keptWith}
 use Rattle.derive.specs.Index.{Absent, Indexed}
 use Rattle.derive.specs.Derive.{entriesWith, entriesTo, nextEntries, markOf, grown, Marked}
+use Rattle.derive.proofs.FindLaws.{and-no}
 
 -- ---- how many entries there are after a mark
 
@@ -76,9 +77,6 @@ entries-snoc source [] (y ∷ ps) u p h = absurd (omega arith)
 entries-snoc source (x ∷ us) [] u p h = absurd (omega arith)
 entries-snoc source (x ∷ us) (y ∷ ps) u p h = ap (λ (l : List Entry). entryMade source x y ∷ l) (entries-snoc source us ps u p (omega arith))
 
-differ : true ≡ false → ⊥
-differ e = let z : _≡_ {A = ℕ} 0 1 = cc in absurd (omega arith)
-
 -- an entry stands nowhere before its place
 place-before : (source u p : ℕ) (us ps : List ℕ) (i : ℕ) → i < placeOf same (entryMade source u p) (entriesWith source us ps) → getD us i 0 ≡ u → getD ps i 0 ≡ p → ⊥
 unfolding entriesWith placeOf
@@ -90,7 +88,7 @@ place-before source u p (x ∷ us) (y ∷ ps) i h eu ep = go (same (entryMade so
         → ((i : ℕ) → i < placeOf same (entryMade source u p) (entriesWith source us ps) → getD us i 0 ≡ u → getD ps i 0 ≡ p → ⊥)
         → (i : ℕ) → i < pick b 0 (suc (placeOf same (entryMade source u p) (entriesWith source us ps))) → getD (x ∷ us) i 0 ≡ u → getD (y ∷ ps) i 0 ≡ p → ⊥
     go true q ih i h eu ep = absurd (omega arith)
-    go false q ih zero h eu ep = differ (rw (T→eq (eqb source source) (eqb-refl source), eq-eqb u x (sym eu), eq-eqb p y (sym ep)) at q)
+    go false q ih zero h eu ep = clash true refl (rw (T→eq (eqb source source) (eqb-refl source), eq-eqb u x (sym eu), eq-eqb p y (sym ep)) at q)
     go false q ih (suc i) h eu ep = ih i (omega arith) eu ep
 
 -- ---- a field that is not kept, and one that is
@@ -172,10 +170,6 @@ pub index-more : (d : ℕ) {us ps heads links : List ℕ} → Indexed (d + 1) us
 index-more d x = index-then (sym (grown-yes d (d + 1) refl)) x
 
 -- ---- what a field's two sets say
-
-and-no : (b : Bool) → (b && false) ≡ false
-and-no true = refl
-and-no false = refl
 
 module _ (source : ℕ) (x : Sets) where
   pub no-users : x .users ≡ 0 → keptWith source x ≡ none

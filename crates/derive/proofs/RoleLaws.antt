@@ -17,7 +17,7 @@ use borrow.Author.Tests.{leb-false, eqb-true, ne-eqb, eq-eqb, lt-ltb, ltb-false}
 use Rattle.ground.specs.Choice.{pick}
 use Rattle.ground.specs.Search.{any, anyBelow}
 use Rattle.ground.specs.Sequence.{All}
-use Rattle.ground.proofs.SearchLaws.{any-same, any-stop}
+use Rattle.ground.proofs.SearchLaws.{any-same, any-stop, or-false}
 use Rattle.ground.proofs.SequenceLaws.{get-listOf}
 use Rattle.bitset.specs.Sets.{has, setOf, union}
 use Rattle.bitset.proofs.SetLaws.{has-none, has-union, has-setOf, setOf-lt, ext}
@@ -28,6 +28,7 @@ use Rattle.rota.specs.Rota.{Row, Rota}
 use Rattle.rota.specs.RotaWell.{RefWell, RowWell, RotaWell}
 use Rattle.derivation.specs.Masks.{slotOf, assignedIn, usersIn, permissionsIn, keptIn}
 use Rattle.derive.specs.Role.{unionOf, setsMade, setsIn, keptWith, keptBy, atSlot, bySlot, roleOf}
+use Rattle.derive.proofs.FindLaws.{and-no}
 
 pub slot-small : (h : ℕ) (ref : HoursRef) → h ≤ 32 → RefWell h ref → slotOf ref < 33
 unfolding slotOf dangling
@@ -73,14 +74,6 @@ and-or : (a b c : Bool) → (a && (b || c)) ≡ ((a && b) || (a && c))
 and-or true b c = refl
 and-or false b c = refl
 
-and-no : (b : Bool) → (b && false) ≡ false
-and-no true = refl
-and-no false = refl
-
-or-no : (b : Bool) → b ≡ (b || false)
-or-no true = refl
-or-no false = refl
-
 -- ---- the slots of a mask
 
 module _ (m : ℕ) where
@@ -119,7 +112,7 @@ module _ (m : ℕ) where
       go : (b : Bool) → has (unionOf sets m k) x ≡ anyBelow k (λ j. has m j && has (getD sets j 0) x)
           → has (pick b (union (unionOf sets m k) (getD sets k 0)) (unionOf sets m k)) x ≡ (anyBelow k (λ j. has m j && has (getD sets j 0) x) || (b && has (getD sets k 0) x))
       go true h = has-union (unionOf sets m k) (getD sets k 0) x l ∙ ap (λ (b : Bool). b || has (getD sets k 0) x) h
-      go false h = h ∙ or-no (anyBelow k (λ j. has m j && has (getD sets j 0) x))
+      go false h = h ∙ sym (or-false (anyBelow k (λ j. has m j && has (getD sets j 0) x)))
 
   pub union-lt : (sets : List ℕ) (k : ℕ) → unionOf sets m k < 2 ^ 64
   unfolding unionOf union

@@ -9,6 +9,8 @@ use lib.Dec.{eqb}
 use lib.ListN.{getD}
 use lib.Pow.{shr-shr}
 use borrow.Author.Tests.{eq-eqb, ne-eqb, eqb-true}
+use Rattle.ground.proofs.BoolLaws.{clash, and-left}
+use Rattle.ground.proofs.SearchLaws.{or-false}
 use Rattle.bitset.specs.Sets.{has, setOf, union, intersection, Lowest}
 use Rattle.bitset.proofs.SetLaws.{has-none, has-below, has-intersection, setOf-has}
 use Rattle.derive.specs.Role.{inUse, usedIn, unionOf}
@@ -37,20 +39,9 @@ shifted : (x n i : ℕ) → has (x / 2 ^ n) i ≡ has x (n + i)
 unfolding has
 shifted x n i = ap (λ (y : ℕ). eqb (y % 2) 1) (shr-shr x n i)
 
-or-no : (b : Bool) → b ≡ (b || false)
-or-no true = refl
-or-no false = refl
-
 union-nothing : (x : ℕ) → x < 2 ^ 64 → x ≡ union x 0
 unfolding union
-union-nothing x h = setOf-has 64 x (λ j. has x j || has 0 j) h (λ j l. or-no (has x j) ∙ ap (λ (b : Bool). has x j || b) (sym (has-none j)))
-
-differ : true ≡ false → ⊥
-differ e = let z : _≡_ {A = ℕ} 0 1 = cc in absurd (omega arith)
-
-and-first : (a b : Bool) → (a && b) ≡ true → a ≡ true
-and-first true b e = refl
-and-first false b e = absurd (differ (sym e))
+union-nothing x h = setOf-has 64 x (λ j. has x j || has 0 j) h (λ j l. sym (or-false (has x j)) ∙ ap (λ (b : Bool). has x j || b) (sym (has-none j)))
 
 -- ---- from slot to slot
 
@@ -67,7 +58,7 @@ module _ (sets : List ℕ) (m s : ℕ) (es : s ≡ intersection m (usedIn sets))
       go true true f g w =
           union-with sets m i (unionOf sets m i) refl (unionOf sets m i) f
           (union-nothing (unionOf sets m i) (union-lt m sets i) ∙ ap (union (unionOf sets m i)) (sym (eqb-true (getD sets i 0) 0 g)))
-      go true false f g w = absurd (differ (rw (f, g) at w))
+      go true false f g w = clash true refl (rw (f, g) at w)
 
   skip : (g n : ℕ) → n + g ≤ 33 → ((j : ℕ) → j < g → has s (n + j) ≡ false) → unionOf sets m n ≡ unionOf sets m (n + g)
   skip zero n h f = let e : n ≡ n + 0 = omega arith in ap (unionOf sets m) e
@@ -93,4 +84,4 @@ module _ (sets : List ℕ) (m s : ℕ) (es : s ≡ intersection m (usedIn sets))
       pub union-turn : (y : ℕ) → n + r < 33 → y ≡ union x (getD sets (n + r) 0) → y ≡ unionOf sets m ((n + r) + 1)
       union-turn y h q =
           union-with sets m (n + r) x (e ∙ skip r n (omega arith) (λ j l. sym (shifted s n j) ∙ low .below j l)) y
-          (and-first (has m (n + r)) (inUse sets (n + r)) (sym (slot-at (n + r) h) ∙ sym (shifted s n r) ∙ low .member)) q
+          (and-left (has m (n + r)) (inUse sets (n + r)) (sym (slot-at (n + r) h) ∙ sym (shifted s n r) ∙ low .member)) q

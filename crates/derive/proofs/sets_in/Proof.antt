@@ -1,6 +1,5 @@
 use mathlib.Core.Path.{sym, _∙_}
 use Rattle.derive.proofs.FindLaws.{enabled-sets, no-sets}
-use borrow.Author.Needs.{needs}
 use Rattle.derive.proofs.sets_in.Statement.{statement}
 use Rattle.derive.proofs.sets_in.Tie as tie
 
