@@ -19,10 +19,11 @@ use Rattle.rota.specs.declared.Layout.{Layout}
 use Rattle.rota.proofs.RotaWellLaws.{roles-count}
 use Rattle.table.specs.TableBytes.{headerBytes, entryBytes, rowBytes, tableBytes}
 use Rattle.derivation.specs.Rewriting.{rewrite, sizeOf, rewriteOutcome, areaAfter}
-use Rattle.rewriting.specs.Parts.{Located, HeaderFits, started, lengthWith, CountedTo}
+use Rattle.rota.specs.Answers.{Located}
+use Rattle.rewriting.specs.Parts.{HeaderFits, started, lengthWith, CountedTo}
 use Rattle.rewriting.proofs.AnswerLaws.{too-long, written}
 use Rattle.derive.specs.declared.Count.{Count}
-use Rattle.rewriting.proofs.LocatedLaws.{layout-is}
+use Rattle.rota.proofs.LocatedLaws.{fine, counted}
 use Rattle.rewriting.proofs.WriteLaws.{entry-long, row-long, joined-long, three-runs}
 
 -- the header of a table with d entries and n rows
@@ -58,13 +59,13 @@ module _ (s : List ℕ) (l : Layout) (w : Located s l) where
   -- the header's fields fit
   pub header-fits : (d n : ℕ) → HeaderFits (countsWith l d n)
   header-fits d n =
-      let q = layout-is s l w in
-      let h = q .fine .header in
+      let h = fine s l w .header in
+      let q = counted s l w in
       record {
-        cycle = omega (arith, q .counts .cycle, h .cycle-most);
-        users = omega (arith, q .counts .users, h .users-most);
-        permissions = omega (arith, q .counts .permissions, h .permissions-most);
-        roles = omega (arith, q .counts .roles, h .roles-most);
+        cycle = omega (arith, q .cycle, h .cycle-most);
+        users = omega (arith, q .users, h .users-most);
+        permissions = omega (arith, q .permissions, h .permissions-most);
+        roles = omega (arith, q .roles, h .roles-most);
       }
 
   module _ (d n : ℕ) (ed : d ≡ length (rewrite (rotaOf s) .entries)) (en : n ≡ length (rewrite (rotaOf s) .rows)) where
@@ -73,7 +74,7 @@ module _ (s : List ℕ) (l : Layout) (w : Located s l) where
         (length (rewrite (rotaOf s) .entries)) (length (rewrite (rotaOf s) .rows))
     unfolding rewrite rotaOf
     header-is =
-        let q = layout-is s l w .counts in
+        let q = counted s l w in
         rw (q .cycle, q .users, q .permissions, q .roles ∙ sym (roles-count s), ed, en)
 
     pub table-written : (out out₁ out₂ : List ℕ) → sizeOf (rewrite (rotaOf s)) ≤ length out
@@ -94,7 +95,7 @@ module _ (s : List ℕ) (l : Layout) (w : Located s l) where
 
   -- what laying out the fields asks
   pub lay-asks : (rotaJudged s ≡ 0) × (l .counts .cycle ≡ cycleOf s) × (l .counts .hours ≡ hoursOf s)
-  lay-asks = let q = layout-is s l w in (w .clear, q .counts .cycle, q .counts .hours)
+  lay-asks = (w .accepted, counted s l w .cycle, counted s l w .hours)
 
   -- what becomes of an area once its header is written or not
   module _ (area : List ℕ) (k : Count) (q : CountedTo s (length area) k) (b : Bool) (after : List ℕ) (eb : b ≡ leb (lengthWith (k .entries) (k .rows)) (length area))
@@ -126,11 +127,11 @@ module _ (s : List ℕ) (l : Layout) (w : Located s l) where
         let g = begun t in
         let z = q .exact (g .0) in
         let f = fits-so (g .0) in
-        written s area (w .clear) (k .entries) (k .rows) (lengthWith (k .entries) (k .rows)) last f (z .0) (z .1) refl
+        written s area (w .accepted) (k .entries) (k .rows) (lengthWith (k .entries) (k .rows)) last f (z .0) (z .1) refl
         (table-written (k .entries) (k .rows) (z .0) (z .1) area after last f (g .1) e)
 
     pub has-not : b ≡ false → (refused 20 ≡ rewriteOutcome s (length area)) × (after ≡ areaAfter s area)
     has-not t =
         let g = started-no area (countsWith l (k .entries) (k .rows)) (lengthWith (k .entries) (k .rows)) b after eb t ea in
-        let z = too-long s area (w .clear) (q .over (g .0)) in
+        let z = too-long s area (w .accepted) (q .over (g .0)) in
         (z .0, g .1 ∙ z .1)

@@ -8,10 +8,7 @@ use lib.ListN.{length, take, drop}
 use lib.Seq.{sets}
 use Rattle.ground.specs.Choice.{pick}
 use Rattle.rota.specs.RotaBytes.{hoursOf, rotaOf, rowAt}
-use Rattle.rota.specs.RotaRefusals.{rotaJudged}
 use Rattle.rota.specs.RotaWell.{RefWell}
-use Rattle.rota.specs.Answers.{layoutOf}
-use Rattle.rota.specs.declared.Layout.{Layout}
 use Rattle.table.specs.Table.{Row}
 use Rattle.table.specs.TableBytes.{headerBytes}
 use Rattle.table.specs.declared.Counts.{Counts}
@@ -22,11 +19,6 @@ use Rattle.derivation.proofs.RoleByRole.{entriesAt, rowsAt}
 use Rattle.derivation.proofs.RoleMarks.{rowsMarked}
 use Rattle.derive.specs.Derive.{entriesTo}
 use Rattle.derive.specs.declared.Count.{Count}
-
--- bytes that are a rota, with its layout
-pub record Located (s : List ℕ) (l : Layout) : Type 0 where
-  pub clear : rotaJudged s ≡ 0
-  pub layout : l ≡ layoutOf s
 
 -- n rows from `at` on lie inside the bytes, with numbers below 64 and hours that are always or one of at most 32 records
 pub record RowsFit (s : List ℕ) (at n : ℕ) : Type 0 where

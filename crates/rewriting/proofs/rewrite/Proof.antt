@@ -1,6 +1,6 @@
 use mathlib.Core.Path.{ap, sym, _∙_}
 use Rattle.rota.specs.Answers.{layoutGiven}
-use Rattle.rota.proofs.ReadLaws.{located}
+use Rattle.rota.proofs.LocatedLaws.{located-by}
 use Rattle.rewriting.proofs.AnswerLaws.{not-a-rota}
 use borrow.Author.Needs.{needs}
 use Rattle.rewriting.proofs.rewrite.Statement.{statement}
@@ -17,8 +17,7 @@ enum-known-l c = search needs
 
 rewrite-located-requires : tie.Need-rewrite-located-requires
 rewrite-located-requires c κs = let a = c .before .before .before .before .before .before .before .args in
-    let q = located (a .s .now) _ (ap layoutGiven (sym (c .before .before .l .given .1)) ∙ c .before .before .before .before .locate .ensures) in
-    record { clear = q .0; layout = q .1 }
+    located-by (a .s .now) _ (ap layoutGiven (sym (c .before .before .l .given .1)) ∙ c .before .before .before .before .locate .ensures)
 
 returns : tie.Need-returns
 returns c = let a = c .before .before .before .before .before .before .args in not-a-rota (a .s .now) (a .out .now) _ (ap layoutGiven (sym (c .before .code .given .1)) ∙ c .before .before .before .locate .ensures)
