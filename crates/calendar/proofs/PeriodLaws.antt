@@ -1,5 +1,6 @@
 -- Years and months as starts (StartLaws).
---     year-next, month-next, month-gap     the next start; a month's length is what lies between its start and the next
+--     year-next, year-before               the next start, and back
+--     month-next, month-gap                the next start; a month's length is what lies between its start and the next
 --     year-end, month-end                  where the last year ends; where a year ends, by months
 --     month-table                          a list of month starts, tested at one leap year or one common year, serves all
 --     year-stays, year-moves, year-last    the year of a day is the guess by 366, or the next
@@ -7,10 +8,10 @@
 --     year-place, month-place, year-is, month-is     the year of a day, and the month of a day of a year, by where they start and end
 -- Assumes nothing.
 use Prim.Native.Nat.{ℕ, zero, suc, _+_, _-_, _/_, _<_, _≤_, zero-le}
-use mathlib.Core.Path.{_≡_, refl, sym, _∙_}
+use mathlib.Core.Path.{_≡_, refl, sym, ap, _∙_}
 use mathlib.Core.Bool.{Bool, true, false}
 use native.Mathlib.Nat.{not-suc-le-zero}
-use native.Mathlib.Numerals.{one-add}
+use native.Mathlib.Numerals.{add-one, one-add}
 use native.Mathlib.Omega.{arith}
 use mathlib.Core.List.{List}
 use lib.Dec.{T, lit<}
@@ -21,6 +22,12 @@ use Rattle.calendar.proofs.StartLaws.{runs, run-at, near, Placed, place
 pub year-next : (k : ℕ) → yearStart (suc k) ≡ yearStart k + yearLength (2001 + k)
 unfolding yearStart
 year-next k = refl
+
+-- where a year starts, by where the next one does
+pub year-before : (k n l : ℕ) → n ≡ yearStart (k + 1) → l ≡ yearLength (2001 + k) → (l ≤ n) × (n - l ≡ yearStart k)
+year-before k n l en el =
+    let e : yearStart (k + 1) ≡ yearStart k + yearLength (2001 + k) = ap yearStart (add-one k) ∙ year-next k in
+    (omega arith, omega arith)
 
 pub month-next : (y j : ℕ) → monthStart y (suc j) ≡ monthStart y j + monthLength y (1 + j)
 unfolding monthStart

@@ -5,6 +5,7 @@ ghost use Prim.Native.Nat.{_<_};
 ghost use Rattle.minutes.specs.Minutes.{E};
 ghost use Rattle.calendar.specs.Calendar.{
   leap,
+  yearLength,
   monthLength,
   yearStart,
   monthStart,
@@ -82,16 +83,42 @@ fn month_length(year: u32, month: u32) -> u32
     month_start(year, month) - month_start(year, month - 1)
 }
 
-// The year of a day, counted from 2001. No year has more than 366 days, so the guess is never late, and it is at most one year early.
-fn year_on(day: u32) -> u32
+// The days of a year.
+fn year_length(year: u32) -> u32
+    ensures { λ r. ⌜ r ≡ yearLength year ⌝ }
+{
+    if is_leap(year) { 366 } else { 365 }
+}
+
+// A year, counted from 2001, and the day number of its 1 January.
+struct Year {
+    k: u32,
+    start: u32,
+}
+
+// The year of a day. No year has more than 366 days, so the guess is never late, and it is at most one year early. The table is read once.
+fn year_on(day: u32) -> Year
     requires { ⌜ day < yearStart 400 ⌝ }
-    ensures { λ r. ⌜ r ≡ yearOn day ⌝ }
+    ensures { λ r. ⌜ (r .k ≡ yearOn day) × (r .start ≡ yearStart (r .k)) ⌝ }
 {
     let k = day / 366;
     if 399 <= k {
-        return k;
+        return Year {
+            k,
+            start: year_start(k),
+        };
     }
-    if year_start(k + 1) <= day { k + 1 } else { k }
+    let next = year_start(k + 1);
+    if next <= day {
+        return Year {
+            k: k + 1,
+            start: next,
+        };
+    }
+    Year {
+        k,
+        start: next - year_length(2001 + k),
+    }
 }
 
 // The month of day n of a year, counted from 0. No month has more than 31 days, so the guess is never late, and it is at most one month early.
@@ -113,9 +140,9 @@ fn date_at(t: u32) -> Date
     ensures { λ r. ⌜ r ≡ dateAt t ⌝ }
 {
     let day = t / 1440;
-    let k = year_on(day);
-    let year = 2001 + k;
-    let n = day - year_start(k);
+    let y = year_on(day);
+    let year = 2001 + y.k;
+    let n = day - y.start;
     let j = month_on(year, n);
     Date {
         year,

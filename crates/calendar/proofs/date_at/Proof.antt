@@ -12,40 +12,31 @@ year-on-requires : tie.Need-year-on-requires
 year-on-requires c κs = omega (arith, end-is)
 
 add-year : tie.Need-add-year
-add-year c = omega (arith, minute-year (c .before .pre) (c .year-on .ensures))
-
-year-start-requires : tie.Need-year-start-requires
-year-start-requires c κs = omega (arith, minute-year (c .before .pre) (c .year-on .ensures))
+add-year c = omega (arith, minute-year (c .before .before .pre) (c .before .year-on .ensures .0))
 
 sub-n : tie.Need-sub-n
-sub-n c = omega (arith, minute-year (c .before .before .pre) (c .before .year-on .ensures))
+sub-n c = omega (arith, minute-year (c .before .before .before .pre) (c .before .before .year-on .ensures .0), c .before .before .year-on .ensures .1)
 
 month-on-requires : tie.Need-month-on-requires
-month-on-requires c κs = omega (arith, year-room (minute-year (c .before .before .pre) (c .before .year-on .ensures)))
+month-on-requires c κs = omega (arith, year-room (minute-year (c .before .before .before .pre) (c .before .before .year-on .ensures .0)), c .before .before .year-on .ensures .1)
 
 add-t7 : tie.Need-add-t7
-add-t7 c =
-    let p = minute-year (c .before .before .before .pre) (c .before .before .year-on .ensures) in
-    omega (arith, minute-month p (c .before .year-start .ensures) (c .month-on .ensures))
+add-t7 c = omega (arith, minute-month (minute-year (c .before .before .before .before .pre) (c .before .before .before .year-on .ensures .0)) (c .before .before .before .year-on .ensures .1) (c .month-on .ensures))
 
 month-start-requires : tie.Need-month-start-requires
-month-start-requires c κs =
-    let p = minute-year (c .before .before .before .pre) (c .before .before .year-on .ensures) in
-    omega (arith, minute-month p (c .before .year-start .ensures) (c .month-on .ensures))
+month-start-requires c κs = omega (arith, minute-month (minute-year (c .before .before .before .before .pre) (c .before .before .before .year-on .ensures .0)) (c .before .before .before .year-on .ensures .1) (c .month-on .ensures))
 
 sub-t9 : tie.Need-sub-t9
-sub-t9 c =
-    let p = minute-year (c .before .before .before .before .pre) (c .before .before .before .year-on .ensures) in
-    omega (arith, minute-month p (c .before .before .year-start .ensures) (c .before .month-on .ensures))
+sub-t9 c = omega (arith, minute-month (minute-year (c .before .before .before .before .before .pre) (c .before .before .before .before .year-on .ensures .0)) (c .before .before .before .before .year-on .ensures .1) (c .before .month-on .ensures), c .before .before .before .before .year-on .ensures .1)
 
 add-t10 : tie.Need-add-t10
 add-t10 c = search needs
 
 returns : tie.Need-returns
 returns c =
-    let p = minute-year (c .before .before .before .before .pre) (c .before .before .before .year-on .ensures) in
-    let q = minute-month p (c .before .before .year-start .ensures) (c .before .month-on .ensures) in
-    rw (c .before .before .year-start .ensures, c .month-start .ensures) (sym (date-is (c .before .before .before .before .args .t) refl p q))
+    let p = minute-year (c .before .before .before .before .before .pre) (c .before .before .before .before .year-on .ensures .0) in
+    let q = minute-month (minute-year (c .before .before .before .before .before .pre) (c .before .before .before .before .year-on .ensures .0)) (c .before .before .before .before .year-on .ensures .1) (c .before .month-on .ensures) in
+    rw (c .before .before .before .before .year-on .ensures .1, c .month-start .ensures) (sym (date-is (c .before .before .before .before .before .args .t) refl p q))
 
 pub date-at-spec : {M : Type 1} → statement M
 date-at-spec =
@@ -53,7 +44,6 @@ date-at-spec =
     (tie.spec
     year-on-requires
     add-year
-    year-start-requires
     sub-n
     month-on-requires
     add-t7
