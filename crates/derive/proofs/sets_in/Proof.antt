@@ -1,10 +1,11 @@
+use native.Mathlib.Omega.{arith}
 use mathlib.Core.Path.{sym, _∙_}
 use Rattle.derive.proofs.FindLaws.{enabled-sets, no-sets}
 use Rattle.derive.proofs.sets_in.Statement.{statement}
 use Rattle.derive.proofs.sets_in.Tie as tie
 
 contains-requires : tie.Need-contains-requires
-contains-requires c κs = c .pre .0
+contains-requires c κs = omega (arith, c .pre .0)
 
 union-in-requires : tie.Need-union-in-requires
 union-in-requires c κs = c .before .before .pre .1
