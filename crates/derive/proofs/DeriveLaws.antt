@@ -3,7 +3,7 @@
 use Prim.Native.Nat.{ℕ, suc, _+_, _<_, _≤_}
 use mathlib.Core.Path.{_≡_, refl, sym, _∙_, ap, ap₂, subst}
 use mathlib.Core.Bool.{Bool, true, false}
-use mathlib.Core.Option.{Option}
+use mathlib.Core.Option.{Option, none, some}
 use mathlib.Core.List.{List, [], _∷_, _++_, append-nil}
 use native.Mathlib.Omega.{arith}
 use native.Mathlib.Numerals.{add-one}
@@ -13,10 +13,12 @@ use lib.Seq.{take-suc-set, append-snoc, length-take-le}
 use borrow.Author.Tests.{lt-ltb, le-ltb}
 use Rattle.ground.specs.Choice.{pick}
 use Rattle.table.specs.Table.{Entry}
+use Rattle.derivation.specs.Rewriting.{same}
+use Rattle.derivation.proofs.TableDistinct.{add-length}
 use Rattle.derive.specs.declared.Role.{Role}
 use Rattle.derive.specs.declared.Sets.{Sets}
 use Rattle.derive.specs.Role.{setsIn, keptWith, keptBy}
-use Rattle.derive.specs.Derive.{entriesWith, entriesTo, nextEntries, markOf, entriesFrom, marksFrom, rowsIn, grown, Marked, Derived}
+use Rattle.derive.specs.Derive.{entriesWith, entriesTo, nextEntries, markOf, entriesFrom, marksFrom, rowsIn, grown, Marked, Derived, DerivedTo}
 use Rattle.derive.proofs.FindLaws.{step-drop, no-drop}
 use Rattle.derive.proofs.MarkLaws.{entries-length}
 
@@ -62,6 +64,16 @@ module _ (g : ℕ → Option Entry) (n : ℕ) (masks : List ℕ) (hm : n ≤ len
   rows-end : rowsIn (marksFrom g es (drop n (take n masks))) ≡ 0
   unfolding marksFrom rowsIn
   rows-end = ap (λ (q : List ℕ). rowsIn (marksFrom g es q)) (no-drop n masks hm)
+
+-- entries are only added
+entries-grow : (g : ℕ → Option Entry) (es : List Entry) (ms : List ℕ) → length es ≤ length (entriesFrom g es ms)
+unfolding entriesFrom
+entries-grow g es [] = omega arith
+entries-grow g es (m ∷ ms) = omega (arith, next-grow (g m), entries-grow g (nextEntries es (g m)) ms)
+  where
+    next-grow : (o : Option Entry) → length es ≤ length (nextEntries es o)
+    next-grow none = unfold nextEntries in omega arith
+    next-grow (some e) = unfold nextEntries in add-length same es e .0
 
 -- ---- the loop
 
@@ -151,6 +163,26 @@ module _ (role : Role) (n : ℕ) (masks us₀ ps₀ marks₀ us ps marks : List 
     where
       last : {a b : ℕ} → b ≡ 0 → rows + b ≡ a → rows ≡ a
       last p q = omega arith
+
+  -- so far: what is left adds to it
+  so-far : n ≤ length us₀ → n ≤ length ps₀ → d ≤ length (entriesFrom (keptBy role) [] (take n masks))
+  so-far hu hp =
+      let es = entriesTo (role .source) d us ps in
+      let e : length es ≡ d
+      = entries-length (role .source) (take d us) (take d ps)
+      (length-take-le d us (omega (arith, s .few, s .within, s .long-users)) ∙ sym (length-take-le d ps (omega (arith, s .few, s .within, s .long-permissions))))
+      ∙ length-take-le d us (omega (arith, s .few, s .within, s .long-users)) in
+      omega (arith, entries-grow (keptBy role) es (drop i (take n masks)), ap length (s .entries))
+
+  pub deriving-to : (limit : ℕ) → n ≤ length us₀ → n ≤ length ps₀ → (rows ≤ limit → i ≡ n) → DerivedTo limit role masks n us ps marks (record { entries = d; rows = rows })
+  deriving-to limit hu hp ends =
+      record {
+        few = omega (arith, s .few, s .within);
+        few-rows = omega (arith, s .few-rows, s .within);
+        entries-least = so-far hu hp;
+        rows-least = omega (arith, s .rows-so);
+        whole = λ h. deriving-end (ends h) hu hp;
+      }
 
 -- ---- there is one mark for each mask
 

@@ -77,3 +77,11 @@ pub record Derived (role : Role) (masks : List ℕ) (n : ℕ) (us ps marks : Lis
   pub entries-are : entriesTo (role .source) (r .entries) us ps ≡ entriesFrom (keptBy role) [] (take n masks)
   pub marks-are : take n marks ≡ marksFrom (keptBy role) [] (take n masks)
   pub rows-are : r .rows ≡ rowsIn (marksFrom (keptBy role) [] (take n masks))
+
+-- a role so far as it was derived: no more than it has, and the whole where the rows are not over the limit
+pub record DerivedTo (limit : ℕ) (role : Role) (masks : List ℕ) (n : ℕ) (us ps marks : List ℕ) (r : Count) : Type 0 where
+  pub few : r .entries ≤ n
+  pub few-rows : r .rows ≤ n
+  pub entries-least : r .entries ≤ length (entriesFrom (keptBy role) [] (take n masks))
+  pub rows-least : r .rows ≤ rowsIn (marksFrom (keptBy role) [] (take n masks))
+  pub whole : r .rows ≤ limit → Derived role masks n us ps marks r

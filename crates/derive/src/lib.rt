@@ -7,7 +7,7 @@ ghost use Rattle.derivation.specs.Distinct.{placeOf};
 ghost use Rattle.derivation.specs.Rewriting.{same};
 ghost use Rattle.derive.specs.Role.{usedIn, unionOf, setsIn, keptWith};
 ghost use Rattle.derive.specs.Index.{bucketOf, Indexed, Absent};
-ghost use Rattle.derive.specs.Derive.{entriesTo, grown, Marked, Room, Derived};
+ghost use Rattle.derive.specs.Derive.{entriesTo, grown, Marked, Room, DerivedTo};
 
 // A role: its number, the slot of the hours in which it is enabled, and its users and permissions by slot. Slot k is hours record k, 32 is always.
 pub struct Role {
@@ -178,18 +178,19 @@ fn mark_field(
     d + 1
 }
 
-// The marks of the first n masks, and the sets that they are the places of. `links` is scratch for their index.
+// The marks of the first n masks, and the sets that they are the places of. It stops once it has more than `limit` rows.
 pub fn derive(
     role: Role,
     masks: &[u64],
     n: usize,
+    limit: usize,
     us: &mut [u64],
     ps: &mut [u64],
     marks: &mut [u16],
     links: &mut [u16],
 ) -> Count
     requires { ⌜ (role .on < 64) × Room n (now masks) (now us) (now ps) (now marks) (now links) ⌝ }
-    ensures { λ r. ⌜ Derived role (now (masks .entry)) n (now (us .exit)) (now (ps .exit)) (now (marks .exit)) r ⌝ }
+    ensures { λ r. ⌜ DerivedTo limit role (now (masks .entry)) n (now (us .exit)) (now (ps .exit)) (now (marks .exit)) r ⌝ }
 {
     let source = role.source;
     let on = role.on;
@@ -202,6 +203,9 @@ pub fn derive(
     let mut rows = 0;
     let mut i = 0;
     while i < n {
+        if limit < rows {
+            return Count { entries: d, rows };
+        }
         let x = sets_in(
             on,
             &users,

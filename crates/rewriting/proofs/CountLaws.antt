@@ -1,7 +1,7 @@
 -- The loop that counts: what is counted so far, and what the roles from r on have, make the whole.
 -- Assumes nothing.
 use Prim.Native.Nat.{ℕ, _+_, _-_, _*_, _≤_, _<_}
-use mathlib.Core.Path.{_≡_, sym, _∙_, ap, ap₂}
+use mathlib.Core.Path.{_≡_, sym, _∙_, ap}
 use mathlib.Core.List.{List}
 use native.Mathlib.Omega.{arith}
 use lib.ListN.{length, length-append}
@@ -10,7 +10,7 @@ use Rattle.rota.proofs.RotaWellLaws.{roles-count}
 use Rattle.derivation.specs.Rewriting.{rewrite, sizeOf}
 use Rattle.derivation.proofs.RoleByRole.{entriesAt, rowsAt, entriesFrom, rowsFrom, entries-by-role, rows-by-role, entries-next, rows-next, entries-none, rows-none}
 use Rattle.derive.specs.declared.Count.{Count}
-use Rattle.rewriting.specs.Parts.{RoleDerived, lengthWith, CountedTo}
+use Rattle.rewriting.specs.Parts.{RoleDerived, RoleDerivedTo, lengthWith, CountedTo}
 
 -- d derived roles and so many rows before role r
 pub record Before (s : List ℕ) (d rows r : ℕ) : Type 0 where
@@ -19,6 +19,10 @@ pub record Before (s : List ℕ) (d rows r : ℕ) : Type 0 where
   pub few-rows : rows ≤ 33345 * r
   pub entries : d + length (entriesFrom (rotaOf s) (rolesOf s - r) r) ≡ length (rewrite (rotaOf s) .entries)
   pub rows-left : rows + length (rowsFrom (rotaOf s) (rolesOf s - r) r d) ≡ length (rewrite (rotaOf s) .rows)
+
+-- a limit that no role passes
+pub role-whole : {s us ps marks : List ℕ} {r n : ℕ} {k : Count} → n ≤ 33345 → RoleDerivedTo 33345 s r n us ps marks k → RoleDerived s r n us ps marks k
+role-whole m q = q .whole (omega (arith, q .few-rows))
 
 module _ (s : List ℕ) where
   -- from role 0 on they are all
@@ -43,37 +47,43 @@ module _ (s : List ℕ) where
       }
 
   module _ (d rows r : ℕ) (b : Before s d rows r) where
+    -- role r first, then the roles after it
+    entries-split : r < rolesOf s → length (entriesFrom (rotaOf s) (rolesOf s - r) r)
+        ≡ length (entriesAt (rotaOf s) r) + length (entriesFrom (rotaOf s) (rolesOf s - (r + 1)) (r + 1))
+    entries-split h = ap length (entries-next (rotaOf s) (rolesOf s) r h) ∙ length-append (entriesAt (rotaOf s) r) _
+
+    rows-split : r < rolesOf s → length (rowsFrom (rotaOf s) (rolesOf s - r) r d)
+        ≡ length (rowsAt (rotaOf s) r d) + length (rowsFrom (rotaOf s) (rolesOf s - (r + 1)) (r + 1) (d + length (entriesAt (rotaOf s) r)))
+    rows-split h = ap length (rows-next (rotaOf s) (rolesOf s) r d h) ∙ length-append (rowsAt (rotaOf s) r d) _
+
     pub before-next : (n : ℕ) (us ps marks : List ℕ) (k : Count) → r < rolesOf s → n ≤ 33345 → RoleDerived s r n us ps marks k
         → Before s (d + k .entries) (rows + k .rows) (r + 1)
     before-next n us ps marks k h m q =
-        let ρ = rotaOf s in
-        let e : length (entriesFrom ρ (rolesOf s - r) r) ≡ k .entries + length (entriesFrom ρ (rolesOf s - (r + 1)) (r + 1))
-        = ap length (entries-next ρ (rolesOf s) r h) ∙ length-append (entriesAt ρ r) (entriesFrom ρ (rolesOf s - (r + 1)) (r + 1))
-        ∙ ap (λ (x : ℕ). x + length (entriesFrom ρ (rolesOf s - (r + 1)) (r + 1))) (sym (q .entry-count)) in
-        let f : length (rowsFrom ρ (rolesOf s - r) r d) ≡ k .rows + length (rowsFrom ρ (rolesOf s - (r + 1)) (r + 1) (d + k .entries))
-        = ap length (rows-next ρ (rolesOf s) r d h) ∙ length-append (rowsAt ρ r d) (rowsFrom ρ (rolesOf s - (r + 1)) (r + 1) (d + length (entriesAt ρ r)))
-        ∙ ap₂ (λ (x y : ℕ). x + length (rowsFrom ρ (rolesOf s - (r + 1)) (r + 1) (d + y))) (sym (q .row-count d)) (sym (q .entry-count)) in
+        let f = rw (← (q .entry-count)) at (rows-split h) in
         record {
           within = omega arith;
           few = omega (arith, b .few, q .few);
           few-rows = omega (arith, b .few-rows, q .few-rows);
-          entries = omega (arith, b .entries);
-          rows-left = omega (arith, b .rows-left);
+          entries = omega (arith, b .entries, entries-split h, q .entry-count);
+          rows-left = omega (arith, b .rows-left, f, q .row-count d);
+        }
+
+    -- within a role there are too many already
+    pub counted-stop : (limit n : ℕ) (us ps marks : List ℕ) (k : Count) → r < rolesOf s → n ≤ 33345 → RoleDerivedTo limit s r n us ps marks k
+        → (room : ℕ) → rolesOf s ≤ 32 → room < lengthWith (d + k .entries) (rows + k .rows)
+        → CountedTo s room (record { entries = d + k .entries; rows = rows + k .rows })
+    unfolding sizeOf
+    counted-stop limit n us ps marks k h m q room few over =
+        record {
+          few = omega (arith, b .few, q .few);
+          few-rows = omega (arith, b .few-rows, q .few-rows);
+          exact = λ l. absurd (omega arith);
+          over = λ l. omega (arith, b .entries, b .rows-left, entries-split h, rows-split h, q .entries-least, q .rows-least d);
         }
 
     size-least : lengthWith d rows ≤ sizeOf (rewrite (rotaOf s))
     unfolding sizeOf
     size-least = omega (arith, b .entries, b .rows-left)
-
-    -- already too many
-    pub counted-over : (room : ℕ) → rolesOf s ≤ 32 → room < lengthWith d rows → CountedTo s room (record { entries = d; rows = rows })
-    counted-over room few h =
-        record {
-          few = omega (arith, b .few, b .within);
-          few-rows = omega (arith, b .few-rows, b .within);
-          exact = λ l. absurd (omega arith);
-          over = λ l. omega (arith, size-least);
-        }
 
     -- and the table's own where no role is left
     whole : r ≡ rolesOf s → (d ≡ length (rewrite (rotaOf s) .entries)) × (rows ≡ length (rewrite (rotaOf s) .rows))

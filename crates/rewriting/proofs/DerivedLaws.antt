@@ -21,12 +21,12 @@ use Rattle.derivation.proofs.RewritingTheorems.{kept-mask}
 use Rattle.derivation.proofs.RoleByRole.{entriesAt, rowsAt}
 use Rattle.derivation.proofs.RoleMarks as rules
 use Rattle.derive.specs.Role.{keptBy, roleOf}
-use Rattle.derive.specs.Derive.{entriesTo, nextEntries, markOf, entriesFrom, marksFrom, rowsIn, Derived}
+use Rattle.derive.specs.Derive.{entriesTo, nextEntries, markOf, entriesFrom, marksFrom, rowsIn, Derived, DerivedTo}
 use Rattle.derive.specs.declared.Role.{Role}
 use Rattle.derive.specs.declared.Count.{Count}
 use Rattle.derive.proofs.RoleLaws.{kept-by}
 use Rattle.derive.proofs.DeriveLaws.{marks-count}
-use Rattle.rewriting.specs.Parts.{MasksAre, RoleDerived}
+use Rattle.rewriting.specs.Parts.{MasksAre, RoleDerived, RoleDerivedTo}
 
 -- ---- the two ways to say it
 
@@ -80,23 +80,43 @@ module _ (s : List ℕ) (clear : rotaJudged s ≡ 0) (r : ℕ) (few : r < rolesO
       (all-by (λ (f : Window). keptAs (rotaOf s) r f ≡ keptIn (rotaOf s) r (maskOf (rotaOf s) f)) (fields (rotaOf s))
       (λ f m. kept-mask (accepted-well s clear) r (rw (roles-count s) few) f m)))
 
-  pub role-derived : (role : Role) (us ps marks : List ℕ) (k : Count) → role ≡ roleOf (rotaOf s) r → Derived role masks n us ps marks k → RoleDerived s r n us ps marks k
-  unfolding roleOf
-  role-derived role us ps marks k er d =
-      let ρ = rotaOf s in
-      let g : (m : ℕ) → keptBy role m ≡ keptIn ρ r m = λ m. ap (λ (x : Role). keptBy x m) er ∙ kept-by ρ (accepted-well s clear) r m in
-      let entries : entriesFrom (keptBy role) [] (take n masks) ≡ entriesAt ρ r
-      = entries-same ρ r (keptBy role) g [] (take n masks) ∙ sym (rules.role-entries ρ r (take n masks) agree) in
-      let marks-are : take n marks ≡ rules.marksFrom ρ r [] (take n masks) = d .marks-are ∙ marks-same ρ r (keptBy role) g [] (take n masks) in
-      let rows : (base : ℕ) → rules.rowsMarked base (fields ρ) (take n marks) ≡ rowsAt ρ r base
-      = λ base. ap (rules.rowsMarked base (fields ρ)) marks-are ∙ sym (rules.role-rows ρ r (take n masks) agree base) in
-      let long : length (fields ρ) ≡ length (take n marks)
-      = sym (ap length (d .marks-are) ∙ marks-count (keptBy role) [] (take n masks) ∙ ap length are ∙ length-map (fields ρ) (maskOf ρ)) in
-      record {
-        few = d .few;
-        few-rows = d .few-rows;
-        entries-are = ap (λ (x : Role). entriesTo (x .source) (k .entries) us ps) (sym er) ∙ d .entries-are ∙ entries;
-        rows-are = rows;
-        entry-count = d .count-is ∙ ap length entries;
-        row-count = λ base. d .rows-are ∙ ap rowsIn (sym (d .marks-are)) ∙ sym (rows-marked base (fields ρ) (take n marks) long) ∙ ap length (rows base);
-      }
+  module _ (role : Role) (er : role ≡ roleOf (rotaOf s) r) where
+    by-rules : (m : ℕ) → keptBy role m ≡ keptIn (rotaOf s) r m
+    by-rules m = ap (λ (x : Role). keptBy x m) er ∙ kept-by (rotaOf s) (accepted-well s clear) r m
+
+    -- all derived roles and all rows of the role
+    entries-all : entriesFrom (keptBy role) [] (take n masks) ≡ entriesAt (rotaOf s) r
+    entries-all = entries-same (rotaOf s) r (keptBy role) by-rules [] (take n masks) ∙ sym (rules.role-entries (rotaOf s) r (take n masks) agree)
+
+    marked-all : (base : ℕ) → rules.rowsMarked base (fields (rotaOf s)) (marksFrom (keptBy role) [] (take n masks)) ≡ rowsAt (rotaOf s) r base
+    marked-all base =
+        ap (rules.rowsMarked base (fields (rotaOf s))) (marks-same (rotaOf s) r (keptBy role) by-rules [] (take n masks))
+        ∙ sym (rules.role-rows (rotaOf s) r (take n masks) agree base)
+
+    rows-all : (base : ℕ) → rowsIn (marksFrom (keptBy role) [] (take n masks)) ≡ length (rowsAt (rotaOf s) r base)
+    rows-all base =
+        let long : length (fields (rotaOf s)) ≡ length (marksFrom (keptBy role) [] (take n masks))
+        = sym (marks-count (keptBy role) [] (take n masks) ∙ ap length are ∙ length-map (fields (rotaOf s)) (maskOf (rotaOf s))) in
+        sym (rows-marked base (fields (rotaOf s)) (marksFrom (keptBy role) [] (take n masks)) long) ∙ ap length (marked-all base)
+
+    role-derived : (us ps marks : List ℕ) (k : Count) → Derived role masks n us ps marks k → RoleDerived s r n us ps marks k
+    unfolding roleOf
+    role-derived us ps marks k d =
+        record {
+          few = d .few;
+          few-rows = d .few-rows;
+          entries-are = ap (λ (x : Role). entriesTo (x .source) (k .entries) us ps) (sym er) ∙ d .entries-are ∙ entries-all;
+          rows-are = λ base. ap (rules.rowsMarked base (fields (rotaOf s))) (d .marks-are) ∙ marked-all base;
+          entry-count = d .count-is ∙ ap length entries-all;
+          row-count = λ base. d .rows-are ∙ rows-all base;
+        }
+
+    pub role-derived-to : (limit : ℕ) (us ps marks : List ℕ) (k : Count) → DerivedTo limit role masks n us ps marks k → RoleDerivedTo limit s r n us ps marks k
+    role-derived-to limit us ps marks k d =
+        record {
+          few = d .few;
+          few-rows = d .few-rows;
+          entries-least = omega (arith, d .entries-least, ap length entries-all);
+          rows-least = λ base. omega (arith, d .rows-least, rows-all base);
+          whole = λ h. role-derived us ps marks k (d .whole h);
+        }

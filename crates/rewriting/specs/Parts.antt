@@ -40,6 +40,14 @@ pub record RoleDerived (s : List ℕ) (r n : ℕ) (us ps marks : List ℕ) (k : 
   pub entry-count : k .entries ≡ length (entriesAt (rotaOf s) r)
   pub row-count : (base : ℕ) → k .rows ≡ length (rowsAt (rotaOf s) r base)
 
+-- so far as the role was derived: no more than it has, and the whole where the rows are not over the limit
+pub record RoleDerivedTo (limit : ℕ) (s : List ℕ) (r n : ℕ) (us ps marks : List ℕ) (k : Count) : Type 0 where
+  pub few : k .entries ≤ n
+  pub few-rows : k .rows ≤ n
+  pub entries-least : k .entries ≤ length (entriesAt (rotaOf s) r)
+  pub rows-least : (base : ℕ) → k .rows ≤ length (rowsAt (rotaOf s) r base)
+  pub whole : k .rows ≤ limit → RoleDerived s r n us ps marks k
+
 -- the length of a table with so many entries and rows
 abbrev pub lengthWith : ℕ → ℕ → ℕ
 lengthWith d rows = 16 + 17 * d + 16 * rows

@@ -15,7 +15,7 @@ ghost use Rattle.derivation.proofs.RoleMarks.{marked};
 ghost use Rattle.derive.specs.Role.{bySlot, roleOf};
 ghost use Rattle.derive.specs.Derive.{Room, entriesTo};
 ghost use Rattle.grid.specs.Grid.{Cuts, Divided, Laid};
-ghost use Rattle.rewriting.specs.Parts.{RowsFit, MasksAre, RoleDerived, CountedTo, HeaderFits, started, cellOf, eraRows, roleRows};
+ghost use Rattle.rewriting.specs.Parts.{RowsFit, MasksAre, RoleDerivedTo, CountedTo, HeaderFits, started, cellOf, eraRows, roleRows};
 ghost use Rattle.rewriting.specs.Answers.{writtenGiven};
 use derive::Count;
 use derive::Role;
@@ -66,26 +66,28 @@ fn role_of(s: &[u8], l: Layout, r: u8) -> Role
     }
 }
 
-// The derived roles of role r, and the mark of each of the n fields.
+// The derived roles of role r, and the mark of each of the n fields. It stops once it has more than `limit` rows.
 fn derive_role(
     s: &[u8],
     l: Layout,
     r: u8,
     masks: &[u64],
     n: usize,
+    limit: usize,
     us: &mut [u64],
     ps: &mut [u64],
     marks: &mut [u16],
     links: &mut [u16],
 ) -> Count
     requires { ⌜ Located (now s) l × (r < rolesOf (now s)) × Room n (now masks) (now us) (now ps) (now marks) (now links) × MasksAre (now s) (now masks) n ⌝ }
-    ensures { λ k. ⌜ RoleDerived (now (s .entry)) r n (now (us .exit)) (now (ps .exit)) (now (marks .exit)) k ⌝ }
+    ensures { λ k. ⌜ RoleDerivedTo limit (now (s .entry)) r n (now (us .exit)) (now (ps .exit)) (now (marks .exit)) k ⌝ }
 {
     let role = role_of(s, l, r);
-    derive::derive(role, masks, n, us, ps, marks, links)
+    derive::derive(role, masks, n, limit, us, ps, marks, links)
 }
 
-// Counts the derived roles and rows of all roles. It stops as soon as a table of so many is longer than the room, since the length only grows.
+// Counts the derived roles and rows of all roles. It stops as soon as a table of so many is longer than the room, since the length only grows:
+// within a role by its rows alone, of 16 bytes each.
 fn count_all(
     s: &[u8],
     l: Layout,
@@ -106,7 +108,7 @@ fn count_all(
     let mut rows = 0;
     let mut r: u8 = 0;
     while r < roles {
-        let k = derive_role(s, l, r, masks, n, us, ps, marks, links);
+        let k = derive_role(s, l, r, masks, n, room / 16, us, ps, marks, links);
         d += k.entries;
         rows += k.rows;
         if room < 16 + 17 * d + 16 * rows {
@@ -249,7 +251,7 @@ fn write_all(
     let mut p = 16 + 17 * total;
     let mut r: u8 = 0;
     while r < roles {
-        let k = derive_role(s, l, r, masks, ne * nc, us, ps, marks, links);
+        let k = derive_role(s, l, r, masks, ne * nc, 33345, us, ps, marks, links);
         let m = k.entries;
         write_entries(out, 16 + 17 * d, r, us, ps, m);
         p = write_rows(out, p, d as u32, eras, ne, cells, nc, marks);

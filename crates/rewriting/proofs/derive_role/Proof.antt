@@ -1,5 +1,5 @@
 use native.Mathlib.Omega.{arith}
-use Rattle.rewriting.proofs.DerivedLaws.{role-derived}
+use Rattle.rewriting.proofs.DerivedLaws.{role-derived-to}
 use Rattle.rewriting.proofs.LocatedLaws.{role-on}
 use borrow.Author.Needs.{needs}
 use Rattle.rewriting.proofs.derive_role.Statement.{statement}
@@ -24,7 +24,7 @@ same-length-4 : tie.Need-same-length-4
 same-length-4 c = search needs
 
 returns : tie.Need-returns
-returns c = let a = c .before .before .before .before .before .before .before .before .before .before .before .before .before .before .before .before .before .before .before .before .args in let p = c .before .before .before .before .before .before .before .before .before .before .before .before .before .before .before .before .before .before .before .before .pre in role-derived (a .s .now) (p .0 .accepted) (a .r) (p .1) (a .masks .now) (a .n) (p .3) _ _ _ _ _ (c .before .before .before .before .before .before .before .before .before .before .before .before .before .role-of .ensures) (c .before .before .before .before .before .before .before .before .derive .ensures)
+returns c = let a = c .before .before .before .before .before .before .before .before .before .before .before .before .before .before .before .before .before .before .before .before .args in let p = c .before .before .before .before .before .before .before .before .before .before .before .before .before .before .before .before .before .before .before .before .pre in role-derived-to (a .s .now) (p .0 .accepted) (a .r) (p .1) (a .masks .now) (a .n) (p .3) _ (c .before .before .before .before .before .before .before .before .before .before .before .before .before .role-of .ensures) (a .limit) _ _ _ _ (c .before .before .before .before .before .before .before .before .derive .ensures)
 
 pub derive-role-spec : {M : Type 1} → statement M
 derive-role-spec =

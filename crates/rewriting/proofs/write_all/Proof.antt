@@ -4,6 +4,7 @@ use mathlib.Core.Path.{refl, ap}
 use Prim.Native.Nat.{_-_, _<_}
 use Rattle.rota.specs.RotaBytes.{rolesOf}
 use Rattle.rewriting.proofs.FillLaws.{Filling, filling-start, filling-turn, filling-end, entries-room, rows-room, role-rows-are, cells-fit, size-room}
+use Rattle.rewriting.proofs.CountLaws.{role-whole}
 use Rattle.rewriting.proofs.LocatedLaws.{roles-are, cycle-fits}
 use Rattle.rewriting.proofs.ScratchLaws.{Lent, lent-start, lent-on, room-kept}
 use Rattle.rewriting.proofs.write_all.Statement.{statement}
@@ -48,9 +49,9 @@ write-entries-requires : tie.Need-write-entries-requires Inv-loop μ-loop
 write-entries-requires c κs = let a = c .before .before .before .before .before .before .before .before .before .before .before .before .before .before .before .before .before .before .before .before .before .before .before .before .before .before .before .args in let p = c .before .before .before .before .before .before .before .before .before .before .before .before .before .before .before .before .before .before .before .before .before .before .before .before .before .before .before .pre in let l = c .before .before .before .before .before .before .before .before .before .before .before .before .before .before .before .before .before .loop in let k = c .before .before .before .before .before .before .before .before .before .before .before .derive-role in
     let h : l .r < rolesOf (a .s .now) = omega (arith, c .before .before .before .before .before .before .before .before .before .before .before .before .before .before .before .before .loop-test .taken, roles-are (a .s .now) (a .l) (p .0 .0)) in
     let z = size-room (a .s .now) (a .total) (length (a .out .now)) (p .1 .0) (p .1 .1) in (
-      entries-room (a .s .now) (a .total) (a .out .now) (l .out) (l .d) (l .p) (l .r) (l .inv .0) _ _ _ _ (k .result) h (p .0 .2 .few) (k .ensures) (omega arith),
-      omega (arith, k .ensures .few, p .0 .2 .for-users, l .inv .1 .users, k .kept .1 .1 .1 .1 .1 .0),
-      omega (arith, k .ensures .few, p .0 .2 .for-permissions, l .inv .1 .permissions, k .kept .1 .1 .1 .1 .1 .1 .0),
+      entries-room (a .s .now) (a .total) (a .out .now) (l .out) (l .d) (l .p) (l .r) (l .inv .0) _ _ _ _ (k .result) h (p .0 .2 .few) (role-whole (p .0 .2 .few) (k .ensures)) (omega arith),
+      omega (arith, k .ensures .few, p .0 .2 .for-users, l .inv .1 .users, k .kept .1 .1 .1 .1 .1 .1 .0),
+      omega (arith, k .ensures .few, p .0 .2 .for-permissions, l .inv .1 .permissions, k .kept .1 .1 .1 .1 .1 .1 .1 .0),
     )
 
 cast-write-rows : tie.Need-cast-write-rows Inv-loop μ-loop
@@ -60,10 +61,10 @@ write-rows-requires : tie.Need-write-rows-requires Inv-loop μ-loop
 write-rows-requires c κs = let a = c .before .before .before .before .before .before .before .before .before .before .before .before .before .before .before .before .before .before .before .before .before .before .before .before .before .before .before .before .before .before .before .before .before .before .args in let p = c .before .before .before .before .before .before .before .before .before .before .before .before .before .before .before .before .before .before .before .before .before .before .before .before .before .before .before .before .before .before .before .before .before .before .pre in let l = c .before .before .before .before .before .before .before .before .before .before .before .before .before .before .before .before .before .before .before .before .before .before .before .before .loop in let k = c .before .before .before .before .before .before .before .before .before .before .before .before .before .before .before .before .before .before .derive-role in
     let h : l .r < rolesOf (a .s .now) = omega (arith, c .before .before .before .before .before .before .before .before .before .before .before .before .before .before .before .before .before .before .before .before .before .before .before .loop-test .taken, roles-are (a .s .now) (a .l) (p .0 .0)) in
     let z = size-room (a .s .now) (a .total) (length (a .out .now)) (p .1 .0) (p .1 .1) in
-    let e = role-rows-are (a .s .now) (a .eras .now) (a .cells .now) (a .masks .now) (a .ne) (a .nc) (p .0 .1) (l .r) _ _ _ (k .result) (k .ensures) (l .d) in
-    let y = rows-room (a .s .now) (a .total) (a .out .now) (l .out) (l .d) (l .p) (l .r) (l .inv .0) _ _ _ _ (k .result) h (p .0 .2 .few) (k .ensures) z in (
+    let e = role-rows-are (a .s .now) (a .eras .now) (a .cells .now) (a .masks .now) (a .ne) (a .nc) (p .0 .1) (l .r) _ _ _ (k .result) (role-whole (p .0 .2 .few) (k .ensures)) (l .d) in
+    let y = rows-room (a .s .now) (a .total) (a .out .now) (l .out) (l .d) (l .p) (l .r) (l .inv .0) _ _ _ _ (k .result) h (p .0 .2 .few) (role-whole (p .0 .2 .few) (k .ensures)) z in (
       (omega (arith, ap length e, y, c .before .before .before .before .before .before .write-entries .kept .0), omega (arith, l .inv .0 .few, h, roles-are (a .s .now) (a .l) (p .0 .0))),
-      (omega (arith, p .0 .2 .for-marks, l .inv .1 .of-marks, k .kept .1 .1 .1 .1 .1 .1 .1 .0), p .0 .1 .divided .era-cuts .long, cells-fit (cycle-fits (a .s .now) (a .l) (p .0 .0)) (p .0 .1 .divided .cell-cuts)),
+      (omega (arith, p .0 .2 .for-marks, l .inv .1 .of-marks, k .kept .1 .1 .1 .1 .1 .1 .1 .1 .0), p .0 .1 .divided .era-cuts .long, cells-fit (cycle-fits (a .s .now) (a .l) (p .0 .0)) (p .0 .1 .divided .cell-cuts)),
     )
 
 add-d : tie.Need-add-d Inv-loop μ-loop
@@ -78,10 +79,10 @@ loop-less c = omega (arith, c .before .before .before .before .before .before .b
 loop-again : tie.Need-loop-again Inv-loop μ-loop
 loop-again c = let a = c .before .before .before .before .before .before .before .before .before .before .before .before .before .before .before .before .before .before .before .before .before .before .before .before .before .before .before .before .before .before .before .before .before .before .before .before .before .args in let p = c .before .before .before .before .before .before .before .before .before .before .before .before .before .before .before .before .before .before .before .before .before .before .before .before .before .before .before .before .before .before .before .before .before .before .before .before .before .pre in let l = c .before .before .before .before .before .before .before .before .before .before .before .before .before .before .before .before .before .before .before .before .before .before .before .before .before .before .before .loop in let k = c .before .before .before .before .before .before .before .before .before .before .before .before .before .before .before .before .before .before .before .before .before .derive-role in
     let h : l .r < rolesOf (a .s .now) = omega (arith, c .before .before .before .before .before .before .before .before .before .before .before .before .before .before .before .before .before .before .before .before .before .before .before .before .before .before .loop-test .taken, roles-are (a .s .now) (a .l) (p .0 .0)) in (
-      filling-turn (a .s .now) (a .total) (a .out .now) (l .out) (l .d) (l .p) (l .r) (l .inv .0) _ _ _ _ (k .result) h (p .0 .2 .few) (k .ensures)
-          _ _ _ _ (role-rows-are (a .s .now) (a .eras .now) (a .cells .now) (a .masks .now) (a .ne) (a .nc) (p .0 .1) (l .r) _ _ _ (k .result) (k .ensures) (l .d))
+      filling-turn (a .s .now) (a .total) (a .out .now) (l .out) (l .d) (l .p) (l .r) (l .inv .0) _ _ _ _ (k .result) h (p .0 .2 .few) (role-whole (p .0 .2 .few) (k .ensures))
+          _ _ _ _ (role-rows-are (a .s .now) (a .eras .now) (a .cells .now) (a .masks .now) (a .ne) (a .nc) (p .0 .1) (l .r) _ _ _ (k .result) (role-whole (p .0 .2 .few) (k .ensures)) (l .d))
           (c .before .before .before .before .before .before .before .before .before .write-entries .ensures) (c .before .before .write-rows .ensures .0) (c .before .before .write-rows .ensures .1),
-      lent-on (l .inv .1) (k .kept .1 .1 .1 .1 .1 .0) (k .kept .1 .1 .1 .1 .1 .1 .0) (k .kept .1 .1 .1 .1 .1 .1 .1 .0) (k .kept .1 .1 .1 .1 .1 .1 .1 .1 .0),
+      lent-on (l .inv .1) (k .kept .1 .1 .1 .1 .1 .1 .0) (k .kept .1 .1 .1 .1 .1 .1 .1 .0) (k .kept .1 .1 .1 .1 .1 .1 .1 .1 .0) (k .kept .1 .1 .1 .1 .1 .1 .1 .1 .1 .0),
     )
 
 same-length : tie.Need-same-length Inv-loop μ-loop
