@@ -1,14 +1,15 @@
 -- Two minutes of one era with their remainders in one cell: all hours judge them alike, and so does all that is said in terms of hours.
---     alike                                          the hours
+--     dates-alike, pairs-alike, alike                the hours: by their dates, by their pairs, and whole
 --     alike-enabled .. alike-derived, alike-active   what a role has
 -- Assumes nothing.
 use Rattle.ground.proofs.ListLaws.{some-same}
-use Prim.Native.Nat.{ℕ, zero, suc, _+_, _%_}
+use Prim.Native.Nat.{ℕ, zero, suc, _+_, _%_, zero-le}
 use mathlib.Core.Path.{_≡_, refl, sym, ap, ap₂, _∙_}
-use mathlib.Core.Bool.{Bool, _&&_, _||_, and-false}
+use mathlib.Core.Bool.{Bool, _&&_, _||_}
 use mathlib.Core.List.{List, [], _∷_, List·Memᴰ, List·Memᴰ·head, List·Memᴰ·tail, Memᴰ·append-left, Memᴰ·append-right}
 use lib.Dec.{eqb}
 use lib.ListN.{getD}
+use borrow.Author.Tests.{le-leb, le-ltb}
 use Rattle.ground.specs.Search.{any}
 use Rattle.bitset.proofs.SetLaws.{setOf-same}
 use Rattle.minutes.specs.Minutes.{E, within, inPhase}
@@ -24,32 +25,49 @@ use Rattle.derivation.proofs.CutLaws.{Inside, Blind, blind}
 abbrev pub Alike : Rota → ℕ → ℕ → Type 0
 Alike ρ s t = (h : HoursRef) → refOn ρ h s ≡ refOn ρ h t
 
-module _ (c s t : ℕ) where
-  pairs-alike : (ps : List Pair) → ((z : ℕ) → List·Memᴰ z (pairCuts ps) → Blind (s % c) (t % c) z)
-      → any (λ (p : Pair). inPhase c (p .offset) (p .length) s) ps ≡ any (λ (p : Pair). inPhase c (p .offset) (p .length) t) ps
-  unfolding pairCuts any inPhase
-  pairs-alike [] f = refl
-  pairs-alike (p ∷ ps) f =
+-- hours by their dates, and by their pairs at a phase
+module _ (x y : ℕ) where
+  dates-same : (hs : List Hours) (k : ℕ) → ((z : ℕ) → List·Memᴰ z (hoursCuts hs) → Blind x y z)
+      → within (getD hs k never .begin) (getD hs k never .end) x ≡ within (getD hs k never .begin) (getD hs k never .end) y
+  unfolding hoursCuts
+  dates-same [] k f = ap₂ _&&_ (le-leb 0 x zero-le ∙ sym (le-leb 0 y zero-le)) (le-ltb x 0 zero-le ∙ sym (le-ltb y 0 zero-le))
+  dates-same (h ∷ hs) zero f = ap₂ _&&_ (f (h .begin) (List·Memᴰ·head refl) .0) (f (h .end) (List·Memᴰ·tail (List·Memᴰ·head refl)) .1)
+  dates-same (h ∷ hs) (suc k) f = dates-same hs k (λ z m. f z (List·Memᴰ·tail (List·Memᴰ·tail m)))
+
+  spans-same : (ps : List Pair) → ((z : ℕ) → List·Memᴰ z (pairCuts ps) → Blind x y z)
+      → any (λ (p : Pair). within (p .offset) (p .offset + p .length) x) ps ≡ any (λ (p : Pair). within (p .offset) (p .offset + p .length) y) ps
+  unfolding pairCuts any
+  spans-same [] f = refl
+  spans-same (p ∷ ps) f =
       ap₂ _||_ (ap₂ _&&_ (f (p .offset) (List·Memᴰ·head refl) .0) (f (p .offset + p .length) (List·Memᴰ·tail (List·Memᴰ·head refl)) .1))
-      (pairs-alike ps (λ z m. f z (List·Memᴰ·tail (List·Memᴰ·tail m))))
+      (spans-same ps (λ z m. f z (List·Memᴰ·tail (List·Memᴰ·tail m))))
 
-  hours-alike : (hs : List Hours) (k : ℕ) → ((z : ℕ) → List·Memᴰ z (hoursCuts hs) → Blind s t z)
-      → ((z : ℕ) → List·Memᴰ z (pairsCuts hs) → Blind (s % c) (t % c) z) → holds c (getD hs k never) s ≡ holds c (getD hs k never) t
-  unfolding hoursCuts pairsCuts holds any
-  hours-alike [] k f g = and-false (within 0 0 s) ∙ sym (and-false (within 0 0 t))
-  hours-alike (h ∷ hs) zero f g =
-      ap₂ _&&_ (ap₂ _&&_ (f (h .begin) (List·Memᴰ·head refl) .0) (f (h .end) (List·Memᴰ·tail (List·Memᴰ·head refl)) .1))
-      (pairs-alike (h .pairs) (λ z m. g z (Memᴰ·append-left (pairsCuts hs) m)))
-  hours-alike (h ∷ hs) (suc k) f g =
-      hours-alike hs k (λ z m. f z (List·Memᴰ·tail (List·Memᴰ·tail m))) (λ z m. g z (Memᴰ·append-right (pairCuts (h .pairs)) m))
+  pairs-same : (hs : List Hours) (k : ℕ) → ((z : ℕ) → List·Memᴰ z (pairsCuts hs) → Blind x y z)
+      → any (λ (p : Pair). within (p .offset) (p .offset + p .length) x) (getD hs k never .pairs)
+      ≡ any (λ (p : Pair). within (p .offset) (p .offset + p .length) y) (getD hs k never .pairs)
+  unfolding pairsCuts
+  pairs-same [] k f = unfold any in refl
+  pairs-same (h ∷ hs) zero f = spans-same (h .pairs) (λ z m. f z (Memᴰ·append-left (pairsCuts hs) m))
+  pairs-same (h ∷ hs) (suc k) f = pairs-same hs k (λ z m. f z (Memᴰ·append-right (pairCuts (h .pairs)) m))
 
-pub alike : (ρ : Rota) (era cell : Gap) → List·Memᴰ era (gaps (eraCuts ρ)) → List·Memᴰ cell (gaps (cellCuts ρ)) → (s t : ℕ) → Inside era s
-    → Inside era t → Inside cell (s % ρ .cycle) → Inside cell (t % ρ .cycle) → Alike ρ s t
-unfolding eraCuts cellCuts refHolds
-alike ρ era cell m n s t a b a′ b′ Always = blind _ era m E (List·Memᴰ·tail (List·Memᴰ·head refl)) s t a b .1
-alike ρ era cell m n s t a b a′ b′ (Numbered k) =
-    hours-alike (ρ .cycle) s t (ρ .hours) k (λ z w. blind _ era m z (List·Memᴰ·tail (List·Memᴰ·tail w)) s t a b)
-    (λ z w. blind _ cell n z (List·Memᴰ·tail (List·Memᴰ·tail w)) _ _ a′ b′)
+module _ (ρ : Rota) where
+  -- the dates at two minutes of an era, and the pairs at two phases of a cell
+  pub dates-alike : (era : Gap) → List·Memᴰ era (gaps (eraCuts ρ)) → (k s t : ℕ) → Inside era s → Inside era t
+      → within (getD (ρ .hours) k never .begin) (getD (ρ .hours) k never .end) s ≡ within (getD (ρ .hours) k never .begin) (getD (ρ .hours) k never .end) t
+  unfolding eraCuts
+  dates-alike era m k s t a b = dates-same s t (ρ .hours) k (λ z w. blind _ era m z (List·Memᴰ·tail (List·Memᴰ·tail w)) s t a b)
+
+  pub pairs-alike : (cell : Gap) → List·Memᴰ cell (gaps (cellCuts ρ)) → (k x y : ℕ) → Inside cell x → Inside cell y
+      → any (λ (p : Pair). within (p .offset) (p .offset + p .length) x) (getD (ρ .hours) k never .pairs)
+      ≡ any (λ (p : Pair). within (p .offset) (p .offset + p .length) y) (getD (ρ .hours) k never .pairs)
+  unfolding cellCuts
+  pairs-alike cell m k x y a b = pairs-same x y (ρ .hours) k (λ z w. blind _ cell m z (List·Memᴰ·tail (List·Memᴰ·tail w)) x y a b)
+
+  pub alike : (era cell : Gap) → List·Memᴰ era (gaps (eraCuts ρ)) → List·Memᴰ cell (gaps (cellCuts ρ)) → (s t : ℕ) → Inside era s
+      → Inside era t → Inside cell (s % ρ .cycle) → Inside cell (t % ρ .cycle) → Alike ρ s t
+  unfolding eraCuts refHolds holds inPhase
+  alike era cell m n s t a b a′ b′ Always = blind _ era m E (List·Memᴰ·tail (List·Memᴰ·head refl)) s t a b .1
+  alike era cell m n s t a b a′ b′ (Numbered k) = ap₂ _&&_ (dates-alike era m k s t a b) (pairs-alike cell n k _ _ a′ b′)
 
 -- ---- what follows for roles
 

@@ -6,27 +6,25 @@
 --     fields-distinct, field-count   no field is there twice, so that just one of the list covers a minute
 --     minute-in, minute-any          the first minute of a field is in it, where any minute is
 -- Assumes nothing.
-use Rattle.ground.proofs.ListLaws.{all-in, all-append}
+use Rattle.ground.proofs.ListLaws.{all-in}
 use Rattle.ground.proofs.BoolLaws.{and-left, and-right, and-both}
 use Prim.Native.Nat.{ℕ, _+_, _-_, _%_, _≤_, _<_, zero-le}
 use mathlib.Core.Path.{_≡_, refl, sym, ap, ap₂, _∙_}
 use mathlib.Core.Logic.{⊎-elim}
 use mathlib.Core.Bool.{true}
 use mathlib.Core.List.{List, [], _∷_, map, List·Memᴰ, List·Memᴰ·head, List·Memᴰ·tail, List·Memᴰ·cases-cons, List·Memᴰ·not-nil, Memᴰ·append-left, Memᴰ·append-right, List·Memᴰ·append-cases, Memᴰ·map, Memᴰ·of-map, Memᴰ·cast}
-use native.Mathlib.Nat.{mod-lt, le-refl}
+use native.Mathlib.Nat.{mod-lt}
 use native.Mathlib.Omega.{arith}
 use lib.Dec.{ltb}
 use borrow.Author.Tests.{leb-true, ltb-true, le-leb, lt-ltb}
-use Rattle.ground.specs.Sequence.{All}
 use Rattle.minutes.specs.Minutes.{E, Window, inPhase, covers}
-use Rattle.hours.specs.Hours.{Pair, Hours}
-use Rattle.hours.specs.HoursWell.{PairsWell, HoursWell}
 use Rattle.rota.specs.Rota.{Rota}
 use Rattle.rota.specs.RotaWell.{RotaWell}
 use Rattle.derivation.specs.Cuts.{Gap, gaps}
-use Rattle.derivation.specs.Rewriting.{hoursCuts, pairCuts, pairsCuts, eraCuts, cellCuts, fieldOf, fieldsOf, fields}
+use Rattle.derivation.specs.Rewriting.{eraCuts, cellCuts, fieldOf, fieldsOf, fields}
 use Rattle.derivation.specs.Masks.{minuteOf}
 use Rattle.derivation.specs.Untimed.{countOf}
+use Rattle.derivation.proofs.ValueLaws.{era-values, cell-values}
 use Rattle.derivation.proofs.CutLaws.{Inside, ordered, high-in, find, unique, once}
 use Rattle.derivation.proofs.DistinctLaws.{Distinct, distinct-append, distinct-map}
 use Rattle.derivation.proofs.CountingLaws.{count-exactly}
@@ -112,23 +110,6 @@ fields-once (e ∷ es) cs h d n =
     let r : FieldFrom es cs f = fields-out es cs f k in
     d .0 (Memᴰ·cast (era-of e (r .era) (z .0) (r .cell) (z .2 ∙ sym (r .is))) (r .era-in)))
 
--- ---- no cut is past E or past C
-
-hours-fit : (c : ℕ) (hs : List Hours) → All (HoursWell c) hs → All (λ x. x ≤ E) (hoursCuts hs)
-unfolding hoursCuts
-hours-fit c [] w = tt
-hours-fit c (h ∷ hs) w = (omega (arith, w .0 .ordered, w .0 .ends), (w .0 .ends, hours-fit c hs (w .1)))
-
-pairs-fit : (c low : ℕ) (ps : List Pair) → PairsWell c low ps → All (λ x. x ≤ c) (pairCuts ps)
-unfolding pairCuts
-pairs-fit c low [] w = tt
-pairs-fit c low (p ∷ ps) w = (omega (arith, w .2), (w .2, pairs-fit c _ ps (w .3)))
-
-all-pairs-fit : (c : ℕ) (hs : List Hours) → All (HoursWell c) hs → All (λ x. x ≤ c) (pairsCuts hs)
-unfolding pairsCuts
-all-pairs-fit c [] w = tt
-all-pairs-fit c (h ∷ hs) w = all-append _ (pairCuts (h .pairs)) (pairsCuts hs) (pairs-fit c 0 (h .pairs) (w .0 .pairs)) (all-pairs-fit c hs (w .1))
-
 -- ---- fields
 
 module _ (ρ : Rota) (w : RotaWell ρ) where
@@ -164,9 +145,9 @@ module _ (ρ : Rota) (w : RotaWell ρ) where
         end-is = ap (λ (z : Window). z .end) (sym (r .is));
         left-is = sym p₁;
         right-is = omega arith;
-        era-ends = all-in (λ x. x ≤ E) _ (zero-le, (le-refl E, hours-fit (ρ .cycle) (ρ .hours) (w .hours))) (high-in _ (r .era) (r .era-in));
+        era-ends = all-in (λ x. x ≤ E) _ (era-values ρ w) (high-in _ (r .era) (r .era-in));
         cell-wide = o;
-        cell-ends = all-in (λ x. x ≤ ρ .cycle) _ (zero-le, (le-refl (ρ .cycle), all-pairs-fit (ρ .cycle) (ρ .hours) (w .hours))) (high-in _ (r .cell) (r .cell-in));
+        cell-ends = all-in (λ x. x ≤ ρ .cycle) _ (cell-values ρ w) (high-in _ (r .cell) (r .cell-in));
       }
 
   module _ {f : Window} (m : List·Memᴰ f (fields ρ)) where

@@ -1,3 +1,4 @@
+pub mod ValueLaws
 pub mod TableCuts
 pub mod TableDistinct
 pub mod TableKept

@@ -1,6 +1,6 @@
 -- The eras, the cells and the fields of a rota that keeps the layout: each in its range, in order, and how many there are.
 --     era-cuts-few, cell-cuts-few, eras-few, cells-few, fields-few    at most 66 and 514 values, 65 eras, 513 cells, 33,345 fields
---     fields-well, fields-ordered                                     each field in its range, and each after those before it
+--     fieldsOf-length, fields-well, fields-ordered                    how many fields; each field in its range, and each after those before it
 -- Assumes nothing.
 use Rattle.ground.proofs.ListLaws.{all-append, all-map, all-with, Pairwise, pairwise-append, pairwise-with, pairwise-map}
 use Prim.Native.Nat.{ℕ, _+_, _*_, _≤_, _<_}
@@ -12,45 +12,13 @@ use native.Mathlib.Omega.{arith}
 use lib.ListN.{length, length-append, length-map}
 use Rattle.ground.specs.Sequence.{All}
 use Rattle.minutes.specs.Minutes.{E, Window}
-use Rattle.hours.specs.Hours.{Pair, Hours}
-use Rattle.hours.specs.HoursWell.{PairsWell, HoursWell, pairsIn}
 use Rattle.rota.specs.Rota.{Rota}
 use Rattle.rota.specs.RotaWell.{RotaWell}
 use Rattle.derivation.specs.Cuts.{Gap, gaps}
-use Rattle.derivation.specs.Rewriting.{hoursCuts, pairCuts, pairsCuts, eraCuts, cellCuts, fieldOf, fieldsOf, fields}
+use Rattle.derivation.specs.Rewriting.{hoursCuts, pairsCuts, eraCuts, cellCuts, fieldOf, fieldsOf, fields}
 use Rattle.derivation.proofs.CutLaws.{Sorted, sort-sorted}
+use Rattle.derivation.proofs.ValueLaws.{era-values, cell-values, hoursCuts-length, pairsCuts-length}
 use Rattle.derivation.proofs.TableCuts.{sort-all, sort-length, Fits, Apart, gaps-fit, gaps-apart, gaps-length}
-
--- the values that are sorted: none past its limit, and how many
-hours-within : (c : ℕ) (hs : List Hours) → All (HoursWell c) hs → All (λ (x : ℕ). x ≤ E) (hoursCuts hs)
-unfolding hoursCuts
-hours-within c [] w = tt
-hours-within c (h ∷ hs) w = (omega (arith, w .0 .ordered, w .0 .ends), (w .0 .ends, hours-within c hs (w .1)))
-
-hours-count : (hs : List Hours) → length (hoursCuts hs) ≡ 2 * length hs
-unfolding hoursCuts
-hours-count [] = refl
-hours-count (h ∷ hs) = omega (arith, hours-count hs)
-
-pair-within : (c low : ℕ) (ps : List Pair) → PairsWell c low ps → All (λ (x : ℕ). x ≤ c) (pairCuts ps)
-unfolding pairCuts
-pair-within c low [] w = tt
-pair-within c low (p ∷ ps) w = (omega (arith, w .2), (w .2, pair-within c (p .offset + p .length + 1) ps (w .3)))
-
-pair-count : (ps : List Pair) → length (pairCuts ps) ≡ 2 * length ps
-unfolding pairCuts
-pair-count [] = refl
-pair-count (p ∷ ps) = omega (arith, pair-count ps)
-
-pairs-within : (c : ℕ) (hs : List Hours) → All (HoursWell c) hs → All (λ (x : ℕ). x ≤ c) (pairsCuts hs)
-unfolding pairsCuts
-pairs-within c [] w = tt
-pairs-within c (h ∷ hs) w = all-append (λ (x : ℕ). x ≤ c) (pairCuts (h .pairs)) (pairsCuts hs) (pair-within c 0 (h .pairs) (w .0 .pairs)) (pairs-within c hs (w .1))
-
-pairs-count : (hs : List Hours) → length (pairsCuts hs) ≡ 2 * pairsIn hs
-unfolding pairsCuts pairsIn
-pairs-count [] = refl
-pairs-count (h ∷ hs) = omega (arith, length-append (pairCuts (h .pairs)) (pairsCuts hs), pair-count (h .pairs), pairs-count hs)
 
 -- a field is not empty, ends by E and lies in the cycle
 pub record FieldWell (c : ℕ) (f : Window) : Type 0 where
@@ -81,7 +49,7 @@ fieldsOf-ordered top (e ∷ es) cs p q fit =
     (all-map (λ (f : Window). All (Before f) (fieldsOf es cs)) (fieldOf e) cs
     (all-with (λ x a. fieldsOf-all (Before (fieldOf e x)) (λ d c h k. inr h) es cs (p .0) fit) cs fit))
 
-fieldsOf-length : (es cs : List Gap) → length (fieldsOf es cs) ≡ length es * length cs
+pub fieldsOf-length : (es cs : List Gap) → length (fieldsOf es cs) ≡ length es * length cs
 unfolding fieldsOf
 fieldsOf-length [] cs = omega arith
 fieldsOf-length (e ∷ es) cs =
@@ -90,11 +58,11 @@ fieldsOf-length (e ∷ es) cs =
 module _ (ρ : Rota) (w : RotaWell ρ) where
   pub era-cuts-few : length (eraCuts ρ) ≤ 66
   unfolding eraCuts
-  era-cuts-few = omega (arith, sort-length [] (0 ∷ E ∷ hoursCuts (ρ .hours)), hours-count (ρ .hours), w .hours-most)
+  era-cuts-few = omega (arith, sort-length [] (0 ∷ E ∷ hoursCuts (ρ .hours)), hoursCuts-length (ρ .hours), w .hours-most)
 
   pub cell-cuts-few : length (cellCuts ρ) ≤ 514
   unfolding cellCuts
-  cell-cuts-few = omega (arith, sort-length [] (0 ∷ ρ .cycle ∷ pairsCuts (ρ .hours)), pairs-count (ρ .hours), w .pairs-most)
+  cell-cuts-few = omega (arith, sort-length [] (0 ∷ ρ .cycle ∷ pairsCuts (ρ .hours)), pairsCuts-length (ρ .hours), w .pairs-most)
 
   pub eras-few : length (gaps (eraCuts ρ)) ≤ 65
   eras-few = omega (arith, gaps-length (eraCuts ρ), era-cuts-few)
@@ -122,11 +90,11 @@ module _ (ρ : Rota) (w : RotaWell ρ) where
 
   eras-fit : All (Fits E) (gaps (eraCuts ρ))
   unfolding eraCuts
-  eras-fit = gaps-fit E _ eras-rise (sort-all (λ (x : ℕ). x ≤ E) [] _ tt (omega arith, (omega arith, hours-within (ρ .cycle) (ρ .hours) (w .hours))))
+  eras-fit = gaps-fit E _ eras-rise (sort-all (λ (x : ℕ). x ≤ E) [] _ tt (era-values ρ w))
 
   cells-fit : All (Fits (ρ .cycle)) (gaps (cellCuts ρ))
   unfolding cellCuts
-  cells-fit = gaps-fit (ρ .cycle) _ cells-rise (sort-all (λ (x : ℕ). x ≤ ρ .cycle) [] _ tt (omega arith, (omega arith, pairs-within (ρ .cycle) (ρ .hours) (w .hours))))
+  cells-fit = gaps-fit (ρ .cycle) _ cells-rise (sort-all (λ (x : ℕ). x ≤ ρ .cycle) [] _ tt (cell-values ρ w))
 
   pub fields-well : All (FieldWell (ρ .cycle)) (fields ρ)
   unfolding fields

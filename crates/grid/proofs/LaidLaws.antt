@@ -1,6 +1,5 @@
 -- The masks that the code stores are the masks of the fields, and the arrays hold all that `Laid` says.
---     era-values, cell-values                the values cut at are at most E, and at most the cycle
---     gaps-at, fields-are, fields-number     gaps and fields by index, and how many fields there are
+--     fields-are, fields-number              the fields by index, and how many fields there are
 --     mask-is                                the mask of one field
 --     Written, written-..                    the masks of the eras passed are stored
 --     eras-cut, cells-cut, divided, laid     the arrays of cuts, and all together
@@ -8,70 +7,38 @@
 use Prim.Native.Nat.{ℕ, zero, suc, _+_, _-_, _*_, _%_, _≤_, _<_}
 use mathlib.Core.Path.{_≡_, refl, sym, ap, ap₂, _∙_}
 use mathlib.Core.Bool.{_&&_}
-use mathlib.Core.Logic.{inr}
-use mathlib.Core.List.{List, [], _∷_, _++_, map, append-assoc, append-nil}
-use native.Mathlib.Nat.{not-suc-le-zero, le-antisymm, mul-le-mul-right}
+use mathlib.Core.List.{List, [], _∷_, _++_, map, List·Memᴰ, append-assoc, append-nil}
+use native.Mathlib.Nat.{le-antisymm, mul-le-mul-right}
 use native.Mathlib.Numerals.{add-one}
 use native.Mathlib.Omega.{arith}
-use lib.ListN.{length, getD, take, length-append, length-map}
+use lib.ListN.{length, getD, take}
 use Rattle.ground.specs.Choice.{pick}
-use Rattle.ground.specs.Sequence.{listOf, All}
-use Rattle.ground.proofs.SequenceLaws.{listOf-length, listOf-cons, get-listOf}
+use Rattle.ground.specs.Sequence.{listOf}
+use Rattle.ground.proofs.BoolLaws.{by-ltb}
+use Rattle.ground.proofs.SequenceLaws.{listOf-length, get-listOf}
 use Rattle.bitset.specs.Sets.{setOf, insert, intersection}
-use Rattle.bitset.proofs.SetLaws.{setOf-same}
+use Rattle.bitset.proofs.SetLaws.{setOf-same, intersection-setOf}
 use Rattle.minutes.specs.Minutes.{E}
-use Rattle.hours.specs.Hours.{Pair, Hours, holds, never}
+use Rattle.hours.specs.Hours.{Hours, holds, never}
 use Rattle.hours.specs.HoursBytes.{hoursFrom}
-use Rattle.hours.specs.HoursWell.{PairsWell, HoursWell}
-use Rattle.hours.proofs.RecordLaws.{all-at}
 use Rattle.rota.specs.Rota.{Rota}
 use Rattle.rota.specs.RotaBytes.{cycleOf, hoursOf, rotaOf}
 use Rattle.rota.specs.RotaRefusals.{rotaJudged}
-use Rattle.rota.specs.RotaWell.{RotaWell}
 use Rattle.rota.proofs.RotaFine.{rota-fine}
 use Rattle.rota.proofs.RotaTheorems.{accepted-well}
-use Rattle.derivation.specs.Cuts.{Gap, gapsFrom, gaps}
-use Rattle.derivation.specs.Rewriting.{hoursCuts, pairCuts, pairsCuts, eraCuts, cellCuts, fieldOf, fieldsOf, fields}
+use Rattle.derivation.specs.Cuts.{Gap, gaps}
+use Rattle.derivation.specs.Rewriting.{hoursCuts, pairsCuts, eraCuts, cellCuts, fieldOf, fieldsOf, fields}
 use Rattle.derivation.specs.Masks.{firstIn, maskOf}
+use Rattle.derivation.proofs.CutLaws.{Inside}
+use Rattle.derivation.proofs.FirstLaws.{first-ge, first-left, first-right}
+use Rattle.derivation.proofs.ValueLaws.{era-values, cell-values, hoursCuts-length, pairsCuts-length}
+use Rattle.derivation.proofs.TableFields.{fieldsOf-length}
 use Rattle.grid.specs.Grid.{Added, datesHold, pairsHold, hoursNo, recordsThat, fieldMask, gapAt, InCells, maskIn, Cuts, Divided, Laid}
-use Rattle.grid.proofs.RecordLaws.{few-hours, hoursCuts-length, pairsCuts-length}
-use Rattle.grid.proofs.OrderLaws.{by-ltb, In, Apart, Upto, upto-append, cuts-apart, added-cuts}
-use Rattle.grid.proofs.FieldLaws.{first-ge, first-rem, holds-split, both-set}
-
--- ---- the values
-dates-upto : (c : ℕ) (hs : List Hours) → All (HoursWell c) hs → Upto E (hoursCuts hs)
-unfolding hoursCuts
-dates-upto c [] w = tt
-dates-upto c (h ∷ hs) w = (omega (arith, w .0 .ordered, w .0 .ends), (w .0 .ends, dates-upto c hs (w .1)))
-
-pairs-upto : (c low : ℕ) (ps : List Pair) → PairsWell c low ps → Upto c (pairCuts ps)
-unfolding pairCuts
-pairs-upto c low [] w = tt
-pairs-upto c low (p ∷ ps) w = (omega (arith, w .2), (w .2, pairs-upto c _ ps (w .3)))
-
-spans-upto : (c : ℕ) (hs : List Hours) → All (HoursWell c) hs → Upto c (pairsCuts hs)
-unfolding pairsCuts
-spans-upto c [] w = tt
-spans-upto c (h ∷ hs) w = upto-append c (pairCuts (h .pairs)) (pairsCuts hs) (pairs-upto c 0 (h .pairs) (w .0 .pairs)) (spans-upto c hs (w .1))
-
-pub era-values : (ρ : Rota) → RotaWell ρ → Upto E (0 ∷ E ∷ hoursCuts (ρ .hours))
-era-values ρ w = (omega arith, (omega arith, dates-upto (ρ .cycle) (ρ .hours) (w .hours)))
-
-pub cell-values : (ρ : Rota) → RotaWell ρ → Upto (ρ .cycle) (0 ∷ ρ .cycle ∷ pairsCuts (ρ .hours))
-cell-values ρ w = (omega arith, (omega arith, spans-upto (ρ .cycle) (ρ .hours) (w .hours)))
+use Rattle.grid.proofs.RecordLaws.{few-hours}
+use Rattle.grid.proofs.OrderLaws.{gaps-at, gap-in, added-cuts}
+use Rattle.grid.proofs.FieldLaws.{holds-split}
 
 -- ---- by index
-abbrev gapS : List ℕ → ℕ → Gap
-gapS l k = record { low = getD l k 0; high = getD l (suc k) 0 }
-
-gaps-suc : (n : ℕ) (a : List ℕ) → n < length a → gaps (take (suc n) a) ≡ listOf n (gapS a)
-unfolding gaps gapsFrom listOf
-gaps-suc n [] h = absurd (not-suc-le-zero h)
-gaps-suc zero (x ∷ a) h = refl
-gaps-suc (suc n) (x ∷ []) h = absurd (omega arith)
-gaps-suc (suc n) (x ∷ y ∷ a) h =
-    ap (λ (l : List Gap). record { low = x; high = y } ∷ l) (gaps-suc n (y ∷ a) (omega arith)) ∙ sym (listOf-cons n (gapS (x ∷ y ∷ a)))
-
 listOf-more {ℓ} : {A : Type ℓ} (n : ℕ) (f : ℕ → A) → listOf (n + 1) f ≡ listOf n f ++ (f n ∷ [])
 unfolding listOf
 listOf-more n f = rw (add-one n)
@@ -80,11 +47,6 @@ pub listOf-same {ℓ} : {A : Type ℓ} (n : ℕ) (f g : ℕ → A) → ((k : ℕ
 unfolding listOf
 listOf-same zero f g h = refl
 listOf-same (suc n) f g h = ap₂ (λ l x. l ++ (x ∷ [])) (listOf-same n f g (λ k l. h k (omega arith))) (h n (omega arith))
-
-pub gaps-at : (l a : List ℕ) (n top : ℕ) → Cuts l a n top → gaps l ≡ listOf n (gapAt a)
-gaps-at l a n top c =
-    ap gaps (sym (c .are) ∙ ap (λ (k : ℕ). take k a) (add-one n)) ∙ gaps-suc n a (c .long)
-    ∙ listOf-same n (gapS a) (gapAt a) (λ k h. ap (λ (i : ℕ). record { low = getD a k 0; high = getD a i 0 }) (sym (add-one k)))
 
 map-snoc {ℓ ℓ'} : {A : Type ℓ} {B : Type ℓ'} (f : A → B) (l : List A) (x : A) → map f (l ++ (x ∷ [])) ≡ map f l ++ (f x ∷ [])
 map-snoc f [] x = refl
@@ -103,11 +65,6 @@ fields-snoc : (es cs : List Gap) (e : Gap) → fieldsOf (es ++ (e ∷ [])) cs �
 unfolding fieldsOf
 fields-snoc [] cs e = append-nil (map (fieldOf e) cs)
 fields-snoc (g ∷ es) cs e = ap (λ l. map (fieldOf g) cs ++ l) (fields-snoc es cs e) ∙ sym (append-assoc (map (fieldOf g) cs) (fieldsOf es cs) (map (fieldOf e) cs))
-
-fields-count : (es cs : List Gap) → length (fieldsOf es cs) ≡ length es * length cs
-unfolding fieldsOf
-fields-count [] cs = omega arith
-fields-count (e ∷ es) cs = omega (arith, length-append (map (fieldOf e) cs) (fieldsOf es cs), length-map cs (fieldOf e), fields-count es cs)
 
 -- ---- one field
 mask-by : (ρ : Rota) (dates pairs b e o f : ℕ) → o ≤ f
@@ -137,27 +94,26 @@ pub written-room : {s eras : List ℕ} {ne nc i first : ℕ} {masks : List ℕ} 
 written-room {nc = nc} w hi = omega (arith, w .place, mul-le-mul-right nc hi)
 
 module _ (s : List ℕ) (ok : rotaJudged s ≡ 0) where
-  -- at a minute t of a field no record's dates or pairs begin or end in the field, so the parts judged at its corner are the whole
-  holding-is : (b e o f t : ℕ) → b ≤ t → t < e → o ≤ t % cycleOf s → t % cycleOf s < f
-      → ((v : ℕ) → In v (hoursCuts (rotaOf s .hours)) → Apart b e v) → ((v : ℕ) → In v (pairsCuts (rotaOf s .hours)) → Apart o f v)
+  -- at a minute t of a field the records that hold are those whose parts, judged at the field's corner, do
+  holding-is : (era cell : Gap) → List·Memᴰ era (gaps (eraCuts (rotaOf s))) → List·Memᴰ cell (gaps (cellCuts (rotaOf s))) → (t : ℕ) → Inside era t
+      → Inside cell (t % cycleOf s)
       → setOf (length (rotaOf s .hours)) (λ k. holds (rotaOf s .cycle) (getD (rotaOf s .hours) k never) t)
-      ≡ intersection (recordsThat s (hoursOf s) (datesHold b)) (recordsThat s (hoursOf s) (pairsHold o))
+      ≡ intersection (recordsThat s (hoursOf s) (datesHold (era .low))) (recordsThat s (hoursOf s) (pairsHold (cell .low)))
   unfolding rotaOf hoursFrom recordsThat
-  holding-is b e o f t from to low high p q =
+  holding-is era cell m n t a b =
       ap (λ (n : ℕ). setOf n (λ k. holds (cycleOf s) (getD (listOf (hoursOf s) (hoursNo s)) k never) t)) (listOf-length (hoursOf s) (hoursNo s))
       ∙ setOf-same (hoursOf s) _ _
       (λ k l.
-      ap (λ (h : Hours). holds (cycleOf s) h t) (get-listOf (hoursOf s) (hoursNo s) never k l)
-      ∙ all-at (λ (h : Hours). holds (cycleOf s) h t ≡ (datesHold b h && pairsHold o h)) (hoursOf s) (hoursNo s)
-      (holds-split (cycleOf s) b e o f t from to low high (listOf (hoursOf s) (hoursNo s)) p q) k l)
-      ∙ sym (both-set (hoursOf s) (λ k. datesHold b (hoursNo s k)) (λ k. pairsHold o (hoursNo s k)) (omega (arith, few-hours s ok)))
+      holds-split (rotaOf s) era cell m n t a b k
+      ∙ ap (λ (h : Hours). datesHold (era .low) h && pairsHold (cell .low) h) (get-listOf (hoursOf s) (hoursNo s) never k l))
+      ∙ sym (intersection-setOf (hoursOf s) (λ k. datesHold (era .low) (hoursNo s k)) (λ k. pairsHold (cell .low) (hoursNo s k)) (omega (arith, few-hours s ok)))
 
   module _ (eras cells : List ℕ) (ne nc : ℕ) (ce : Cuts (eraCuts (rotaOf s)) eras ne E) (cc : Cuts (cellCuts (rotaOf s)) cells nc (cycleOf s)) where
     pub mask-is : (i j : ℕ) → i < ne → j < nc
         → fieldMask (cycleOf s) (recordsThat s (hoursOf s) (datesHold (getD eras i 0))) (recordsThat s (hoursOf s) (pairsHold (getD cells j 0)))
         (getD eras i 0) (getD eras (i + 1) 0) (getD cells j 0) (getD cells (j + 1) 0)
         ≡ maskOf (rotaOf s) (fieldOf (gapAt eras i) (gapAt cells j))
-    unfolding eraCuts cellCuts rotaOf
+    unfolding rotaOf
     mask-is i j hi hj =
         let b = getD eras i 0 in
         let e = getD eras (i + 1) 0 in
@@ -166,13 +122,11 @@ module _ (s : List ℕ) (ok : rotaJudged s ≡ 0) where
         let pos : 0 < cycleOf s = rota-fine s ok .header .cycle-some in
         let oe : o < f = cc .rise j hj in
         let ec : f ≤ cycleOf s = cc .most (j + 1) (omega arith) in
-        let w = accepted-well s ok in
-        let rem = first-rem (cycleOf s) b o f pos oe ec in
         mask-by (rotaOf s) _ _ b e o f (omega arith)
         (λ h.
-        holding-is b e o f (firstIn (cycleOf s) b o f) (first-ge (cycleOf s) b o f pos oe ec) h (rem .0) (rem .1)
-        (λ v m. cuts-apart (0 ∷ E ∷ hoursCuts (rotaOf s .hours)) eras ne E (era-values (rotaOf s) w) (ce .long) (ce .are) i v hi (inr (inr m)))
-        (λ v m. cuts-apart (0 ∷ cycleOf s ∷ pairsCuts (rotaOf s .hours)) cells nc (cycleOf s) (cell-values (rotaOf s) w) (cc .long) (cc .are) j v hj (inr (inr m))))
+        holding-is (gapAt eras i) (gapAt cells j) (gap-in _ eras ne (ce .long) (ce .are) i hi) (gap-in _ cells nc (cc .long) (cc .are) j hj) (firstIn (cycleOf s) b o f)
+        (first-ge (cycleOf s) b o f pos oe ec, h)
+        (first-left (cycleOf s) b o f pos oe ec, first-right (cycleOf s) b o f pos oe ec))
 
     -- the masks of one era
     row-is : (i dates : ℕ) (pairs : List ℕ) → i < ne → dates ≡ recordsThat s (hoursOf s) (datesHold (getD eras i 0)) → InCells s (hoursOf s) cells nc pairs
@@ -182,7 +136,7 @@ module _ (s : List ℕ) (ok : rotaJudged s ≡ 0) where
     row-is i dates pairs hi ed in-cells =
         listOf-same nc _ (λ j. maskOf (rotaOf s) (fieldOf (gapAt eras i) (gapAt cells j))) (λ j hj. rw (ed, in-cells .each j hj) (mask-is i j hi hj))
         ∙ sym (map-listOf (maskOf (rotaOf s)) nc (λ j. fieldOf (gapAt eras i) (gapAt cells j)))
-        ∙ ap (map (maskOf (rotaOf s))) (sym (map-listOf (fieldOf (gapAt eras i)) nc (gapAt cells)) ∙ ap (map (fieldOf (gapAt eras i))) (sym (gaps-at _ cells nc _ cc)))
+        ∙ ap (map (maskOf (rotaOf s))) (sym (map-listOf (fieldOf (gapAt eras i)) nc (gapAt cells)) ∙ ap (map (fieldOf (gapAt eras i))) (sym (gaps-at _ cells nc (cc .long) (cc .are))))
 
     module _ {i first : ℕ} {masks : List ℕ} (w : Written s eras ne nc i first masks) where
       pub written-more : {cycle h dates : ℕ} {pairs after : List ℕ} → i < ne → cycle ≡ cycleOf s → h ≡ hoursOf s → dates ≡ recordsThat s h (datesHold (getD eras i 0))
@@ -213,15 +167,15 @@ module _ (s : List ℕ) (ok : rotaJudged s ≡ 0) where
           let p : ne * nc ≡ first = omega (arith, w .place, ap (λ (k : ℕ). k * nc) q) in
           ap (λ (k : ℕ). take k masks) p ∙ w .stored
           ∙ ap (λ (es : List Gap). map (maskOf (rotaOf s)) (fieldsOf es (gaps (cellCuts (rotaOf s)))))
-          (ap (λ (k : ℕ). listOf k (gapAt eras)) q ∙ sym (gaps-at _ eras ne _ ce))
+          (ap (λ (k : ℕ). listOf k (gapAt eras)) q ∙ sym (gaps-at _ eras ne (ce .long) (ce .are)))
 
     pub fields-are : fields (rotaOf s) ≡ fieldsOf (listOf ne (gapAt eras)) (listOf nc (gapAt cells))
     unfolding fields
-    fields-are = ap₂ fieldsOf (gaps-at _ eras ne _ ce) (gaps-at _ cells nc _ cc)
+    fields-are = ap₂ fieldsOf (gaps-at _ eras ne (ce .long) (ce .are)) (gaps-at _ cells nc (cc .long) (cc .are))
 
     pub fields-number : length (fields (rotaOf s)) ≡ ne * nc
     fields-number =
-        ap length fields-are ∙ fields-count (listOf ne (gapAt eras)) (listOf nc (gapAt cells))
+        ap length fields-are ∙ fieldsOf-length (listOf ne (gapAt eras)) (listOf nc (gapAt cells))
         ∙ ap₂ _*_ (listOf-length ne (gapAt eras)) (listOf-length nc (gapAt cells))
 
   -- what the functions that add the cuts leave
