@@ -9,7 +9,7 @@ use native.Mathlib.Omega.{arith}
 use native.Mathlib.Numerals.{add-one}
 use lib.Dec.{ltb, eqb}
 use lib.ListN.{length, getD, take, drop, set, length-set}
-use lib.Seq.{take-suc-set, append-snoc, length-take-le}
+use lib.Seq.{take-suc-set, append-snoc, length-take-le, slice-empty, slice-cons}
 use borrow.Author.Tests.{lt-ltb, le-ltb}
 use Rattle.ground.specs.Choice.{pick}
 use Rattle.table.specs.Table.{Entry}
@@ -19,7 +19,6 @@ use Rattle.derive.specs.declared.Role.{Role}
 use Rattle.derive.specs.declared.Sets.{Sets}
 use Rattle.derive.specs.Role.{setsIn, keptWith, keptBy}
 use Rattle.derive.specs.Derive.{entriesWith, entriesTo, nextEntries, markOf, entriesFrom, marksFrom, rowsIn, grown, Marked, Derived, DerivedTo}
-use Rattle.derive.proofs.FindLaws.{step-drop, no-drop}
 use Rattle.derive.proofs.MarkLaws.{entries-length}
 
 -- ---- one mask more
@@ -30,14 +29,14 @@ module _ (g : ℕ → Option Entry) (n : ℕ) (masks : List ℕ) (i : ℕ) (hi :
   unfolding entriesFrom
   entries-turn =
       ap₂ (λ (e : List Entry) (k : ℕ). entriesFrom g e (drop k (take n masks))) ee (add-one i)
-      ∙ ap (entriesFrom g es) (sym (step-drop i n masks hi hm))
+      ∙ ap (entriesFrom g es) (sym (slice-cons i n masks 0 hi hm))
 
   rest-marks : m ∷ marksFrom g es′ (drop (i + 1) (take n masks)) ≡ marksFrom g es (drop i (take n masks))
   unfolding marksFrom
   rest-marks =
       ap₂ (λ (e : List Entry) (k : ℕ). m ∷ marksFrom g e (drop k (take n masks))) ee (add-one i)
       ∙ ap (λ (z : ℕ). z ∷ marksFrom g (nextEntries es (g (getD masks i 0))) (drop (suc i) (take n masks))) em
-      ∙ ap (marksFrom g es) (sym (step-drop i n masks hi hm))
+      ∙ ap (marksFrom g es) (sym (slice-cons i n masks 0 hi hm))
 
   marks-turn : (marks : List ℕ) → i < length marks
       → take (i + 1) (set marks i m) ++ marksFrom g es′ (drop (i + 1) (take n masks)) ≡ take i marks ++ marksFrom g es (drop i (take n masks))
@@ -52,18 +51,18 @@ module _ (g : ℕ → Option Entry) (n : ℕ) (masks : List ℕ) (i : ℕ) (hi :
       let z : pick (ltb 0 m) 1 0 + rowsIn (marksFrom g es′ (drop (i + 1) (take n masks))) ≡ rowsIn (marksFrom g es (drop i (take n masks))) = ap rowsIn rest-marks in
       omega arith
 
-module _ (g : ℕ → Option Entry) (n : ℕ) (masks : List ℕ) (hm : n ≤ length masks) (es : List Entry) where
+module _ (g : ℕ → Option Entry) (n : ℕ) (masks : List ℕ) (es : List Entry) where
   entries-end : entriesFrom g es (drop n (take n masks)) ≡ es
   unfolding entriesFrom
-  entries-end = ap (entriesFrom g es) (no-drop n masks hm)
+  entries-end = ap (entriesFrom g es) (slice-empty n masks)
 
   marks-end : (l : List ℕ) → l ++ marksFrom g es (drop n (take n masks)) ≡ l
   unfolding marksFrom
-  marks-end l = ap (λ (q : List ℕ). l ++ marksFrom g es q) (no-drop n masks hm) ∙ append-nil l
+  marks-end l = ap (λ (q : List ℕ). l ++ marksFrom g es q) (slice-empty n masks) ∙ append-nil l
 
   rows-end : rowsIn (marksFrom g es (drop n (take n masks))) ≡ 0
   unfolding marksFrom rowsIn
-  rows-end = ap (λ (q : List ℕ). rowsIn (marksFrom g es q)) (no-drop n masks hm)
+  rows-end = ap (λ (q : List ℕ). rowsIn (marksFrom g es q)) (slice-empty n masks)
 
 -- entries are only added
 entries-grow : (g : ℕ → Option Entry) (es : List Entry) (ms : List ℕ) → length es ≤ length (entriesFrom g es ms)
@@ -155,10 +154,10 @@ module _ (role : Role) (n : ℕ) (masks us₀ ps₀ marks₀ us ps marks : List 
             sym (length-take-le d us (omega (arith, t .few, t .long-users)))
             ∙ sym (entries-length (role .source) (take d us) (take d ps)
             (length-take-le d us (omega (arith, t .few, t .long-users)) ∙ sym (length-take-le d ps (omega (arith, t .few, t .long-permissions)))))
-            ∙ ap length (sym (entries-end (keptBy role) n masks hm es) ∙ t .entries);
-        entries-are = sym (entries-end (keptBy role) n masks hm es) ∙ t .entries;
-        marks-are = sym (marks-end (keptBy role) n masks hm es (take n marks)) ∙ t .marks-so;
-        rows-are = last (rows-end (keptBy role) n masks hm es) (t .rows-so);
+            ∙ ap length (sym (entries-end (keptBy role) n masks es) ∙ t .entries);
+        entries-are = sym (entries-end (keptBy role) n masks es) ∙ t .entries;
+        marks-are = sym (marks-end (keptBy role) n masks es (take n marks)) ∙ t .marks-so;
+        rows-are = last (rows-end (keptBy role) n masks es) (t .rows-so);
       }
     where
       last : {a b : ℕ} → b ≡ 0 → rows + b ≡ a → rows ≡ a

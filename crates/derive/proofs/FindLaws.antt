@@ -2,13 +2,13 @@
 -- Assumes nothing.
 use Prim.Native.Nat.{ℕ, suc, _+_, _<_, _≤_}
 use mathlib.Core.Path.{_≡_, refl, sym, _∙_, ap, ap₂}
-use mathlib.Core.Bool.{Bool, true, false, _&&_}
+use mathlib.Core.Bool.{Bool, true, false, _&&_, and-false}
 use mathlib.Core.List.{List, [], _∷_}
 use native.Mathlib.Omega.{arith}
 use native.Mathlib.Numerals.{add-one}
 use lib.Dec.{eqb, eqb-refl}
 use lib.ListN.{length, getD, take, drop}
-use lib.Seq.{drop-cons, getD-take, length-take-le, drop-length}
+use lib.Seq.{slice-empty, slice-cons}
 use borrow.Author.Tests.{eq-eqb, eqb-true}
 use Rattle.ground.specs.Choice.{pick}
 use Rattle.ground.proofs.BoolLaws.{T→eq}
@@ -49,15 +49,6 @@ module _ (on : ℕ) (users permissions : List ℕ) (m : ℕ) where
   unfolding setsIn
   no-sets e = rw e
 
--- ---- lists passed over one at a time
-
-pub step-drop : (i n : ℕ) (l : List ℕ) → i < n → n ≤ length l → drop i (take n l) ≡ getD l i 0 ∷ drop (suc i) (take n l)
-step-drop i n l h k =
-    drop-cons (take n l) i 0 (omega (arith, length-take-le n l k)) ∙ ap (λ (y : ℕ). y ∷ drop (suc i) (take n l)) (getD-take n l i 0 h)
-
-pub no-drop : (n : ℕ) (l : List ℕ) → n ≤ length l → drop n (take n l) ≡ []
-no-drop n l h = ap (λ (k : ℕ). drop k (take n l)) (sym (length-take-le n l h)) ∙ drop-length (take n l)
-
 -- ---- the search
 
 -- the entries from i on
@@ -67,7 +58,7 @@ entriesLeft source i n us ps = entriesWith source (drop i (take n us)) (drop i (
 pub left-next : (source i n : ℕ) (us ps : List ℕ) → i < n → n ≤ length us → n ≤ length ps
     → entriesLeft source i n us ps ≡ entryMade source (getD us i 0) (getD ps i 0) ∷ entriesLeft source (suc i) n us ps
 unfolding entriesWith
-left-next source i n us ps h p q = ap₂ (entriesWith source) (step-drop i n us h p) (step-drop i n ps h q)
+left-next source i n us ps h p q = ap₂ (entriesWith source) (slice-cons i n us 0 h p) (slice-cons i n ps 0 h q)
 
 -- the same at the code's i + 1
 pub left-turn : (source i n : ℕ) (us ps : List ℕ) → i < n → n ≤ length us → n ≤ length ps
@@ -76,13 +67,9 @@ left-turn source i n us ps h p q =
     left-next source i n us ps h p q
     ∙ ap (λ (k : ℕ). entryMade source (getD us i 0) (getD ps i 0) ∷ entriesLeft source k n us ps) (sym (add-one i))
 
-pub left-none : (source n : ℕ) (us ps : List ℕ) → n ≤ length us → entriesLeft source n n us ps ≡ []
+pub left-none : (source n : ℕ) (us ps : List ℕ) → entriesLeft source n n us ps ≡ []
 unfolding entriesWith
-left-none source n us ps h = ap (λ (l : List ℕ). entriesWith source l (drop n (take n ps))) (no-drop n us h)
-
-pub and-no : (b : Bool) → (b && false) ≡ false
-and-no true = refl
-and-no false = refl
+left-none source n us ps = ap (λ (l : List ℕ). entriesWith source l (drop n (take n ps))) (slice-empty n us)
 
 module _ (source u p i n : ℕ) (us ps : List ℕ) (hi : i < n) (hu : n ≤ length us) (hp : n ≤ length ps) where
   step : (b : Bool) → same (entryMade source u p) (entryMade source (getD us i 0) (getD ps i 0)) ≡ b
@@ -113,11 +100,11 @@ module _ (source u p i n : ℕ) (us ps : List ℕ) (hi : i < n) (hu : n ≤ leng
       differs : (a b : Bool) → eqb u (getD us i 0) ≡ a → eqb p (getD ps i 0) ≡ b → same (entryMade source u p) (entryMade source (getD us i 0) (getD ps i 0)) ≡ false
       differs true true e f = absurd (other (sym (eqb-true u (getD us i 0) e)) (sym (eqb-true p (getD ps i 0) f)))
       differs false b e f = rw (T→eq (eqb source source) (eqb-refl source), e)
-      differs true false e f = rw (f) (and-no (eqb source source && eqb u (getD us i 0)))
+      differs true false e f = rw (f) (and-false (eqb source source && eqb u (getD us i 0)))
 
-pub find-end : (source u p i n : ℕ) (us ps : List ℕ) → n ≤ length us → i ≡ n → n ≡ i + placeOf same (entryMade source u p) (entriesLeft source i n us ps)
+pub find-end : (source u p i n : ℕ) (us ps : List ℕ) → i ≡ n → n ≡ i + placeOf same (entryMade source u p) (entriesLeft source i n us ps)
 unfolding placeOf
-find-end source u p i n us ps h e =
+find-end source u p i n us ps e =
     let z : placeOf same (entryMade source u p) (entriesLeft source i n us ps) ≡ 0
-    = ap (λ (k : ℕ). placeOf same (entryMade source u p) (entriesLeft source k n us ps)) e ∙ ap (placeOf same (entryMade source u p)) (left-none source n us ps h) in
+    = ap (λ (k : ℕ). placeOf same (entryMade source u p) (entriesLeft source k n us ps)) e ∙ ap (placeOf same (entryMade source u p)) (left-none source n us ps) in
     omega arith

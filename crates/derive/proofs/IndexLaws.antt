@@ -74,7 +74,7 @@ module _ (source u p n : ℕ) (us ps : List ℕ) (hu : n ≤ length us) (hp : n 
 
   pub seek-end : (c : ℕ) → c ≤ 0 → Seeking n us ps u p c → n ≡ placeOf same (entryMade source u p) (entriesTo source n us ps)
   seek-end c z s =
-      find-end source u p n n us ps hu refl
+      find-end source u p n n us ps refl
       ∙ skipped n (omega arith) (record { nowhere = λ i hi eu ep. absurd (omega (arith, s .past i hi eu ep)) })
 
 -- ---- the index

@@ -2,27 +2,26 @@
 -- Assumes nothing.
 use Prim.Native.Nat.{ℕ, zero, suc, _+_, _<_, _≤_}
 use mathlib.Core.Path.{_≡_, refl, sym, _∙_, ap, ap₂, subst}
-use mathlib.Core.Bool.{Bool, true, false, not, _||_}
+use mathlib.Core.Bool.{Bool, true, false, not, and-false}
 use mathlib.Core.Option.{Option, none, some}
 use mathlib.Core.List.{List, [], _∷_, _++_}
 use native.Mathlib.Omega.{arith}
 use native.Mathlib.Numerals.{add-one}
-use lib.Dec.{eqb, eqb-refl, eqb·suc-suc}
+use lib.Dec.{eqb, eqb-refl}
 use lib.ListN.{length, getD, take, set}
 use lib.Seq.{length-take-le, take-suc-set, getD-take}
 use borrow.Author.Tests.{eq-eqb, ne-eqb}
 use Rattle.ground.specs.Choice.{pick}
 use Rattle.ground.proofs.BoolLaws.{T→eq, clash}
-use Rattle.ground.specs.Search.{any}
 use Rattle.table.specs.Table.{Entry}
 use Rattle.table.specs.Answers.{entryMade}
-use Rattle.derivation.specs.Distinct.{addNew, placeOf}
+use Rattle.derivation.specs.Distinct.{placeOf}
 use Rattle.derivation.specs.Rewriting.{same}
+use Rattle.derivation.proofs.TableDistinct.{place-most, add-found, add-end}
 use Rattle.derive.specs.declared.Sets.{Sets}
 use Rattle.derive.specs.Role.{entryOf, keptWith}
 use Rattle.derive.specs.Index.{Absent, Indexed}
 use Rattle.derive.specs.Derive.{entriesWith, entriesTo, nextEntries, markOf, grown, Marked}
-use Rattle.derive.proofs.FindLaws.{and-no}
 
 -- ---- how many entries there are after a mark
 
@@ -31,35 +30,6 @@ grown-yes d m e = rw (eq-eqb m (d + 1) e)
 
 pub grown-no : (d m : ℕ) → (m ≡ d + 1 → ⊥) → d ≡ grown d m
 grown-no d m e = rw (ne-eqb m (d + 1) e)
-
--- ---- the place of an entry
-
-pub place-le : (x : Entry) (l : List Entry) → placeOf same x l ≤ length l
-unfolding placeOf
-place-le x [] = omega arith
-place-le x (y ∷ l) = go (same x y) (place-le x l)
-  where
-    go : (b : Bool) → placeOf same x l ≤ length l → pick b 0 (suc (placeOf same x l)) ≤ suc (length l)
-    go true h = omega arith
-    go false h = omega arith
-
--- an entry is there exactly where its place is before the end
-any-place : (x : Entry) (l : List Entry) → any (same x) l ≡ not (eqb (placeOf same x l) (length l))
-unfolding any placeOf
-any-place x [] = refl
-any-place x (y ∷ l) = go (same x y) (any-place x l)
-  where
-    go : (b : Bool) → any (same x) l ≡ not (eqb (placeOf same x l) (length l)) → (b || any (same x) l) ≡ not (eqb (pick b 0 (suc (placeOf same x l))) (suc (length l)))
-    go true h = ap not (sym (ne-eqb 0 (suc (length l)) (λ e. omega arith)))
-    go false h = h ∙ ap not (sym (eqb·suc-suc (placeOf same x l) (length l)))
-
-add-by : (x : Entry) (l : List Entry) → pick (eqb (placeOf same x l) (length l)) (l ++ (x ∷ [])) l ≡ addNew same l x
-unfolding addNew
-add-by x l = go (eqb (placeOf same x l) (length l)) ∙ ap (λ (b : Bool). pick b l (l ++ (x ∷ []))) (sym (any-place x l))
-  where
-    go : (b : Bool) → pick b (l ++ (x ∷ [])) l ≡ pick (not b) l (l ++ (x ∷ []))
-    go true = refl
-    go false = refl
 
 -- ---- sets side by side
 
@@ -104,7 +74,7 @@ module _ (source : ℕ) (d : ℕ) (us ps : List ℕ) (hu : d < length us) (hp : 
   ld = entries-length source (take d us) (take d ps) (lu ∙ sym lp) ∙ lu
 
   pub found-le : (x : Entry) → placeOf same x (entriesTo source d us ps) ≤ d
-  found-le x = omega (arith, place-le x (entriesTo source d us ps), ld)
+  found-le x = omega (arith, place-most same x (entriesTo source d us ps), ld)
 
   pub mark-none : (o : Option Entry) → o ≡ none → Marked source o d us ps us ps 0
   unfolding markOf nextEntries
@@ -116,12 +86,6 @@ module _ (source : ℕ) (d : ℕ) (us ps : List ℕ) (hu : d < length us) (hp : 
       }
 
   module _ (u p k : ℕ) (e : k ≡ placeOf same (entryMade source u p) (entriesTo source d us ps)) where
-    grows : (b : Bool) → eqb k d ≡ b
-        → pick b (entriesTo source d us ps ++ (entryMade source u p ∷ [])) (entriesTo source d us ps) ≡ addNew same (entriesTo source d us ps) (entryMade source u p)
-    grows b f =
-        ap (λ (c : Bool). pick c (entriesTo source d us ps ++ (entryMade source u p ∷ [])) (entriesTo source d us ps)) (sym f ∙ ap₂ eqb e (sym ld))
-        ∙ add-by (entryMade source u p) (entriesTo source d us ps)
-
     -- the two sets are among the first d
     pub mark-old : k < d → (o : Option Entry) → o ≡ some (entryMade source u p) → Marked source o d us ps us ps (k + 1)
     unfolding markOf nextEntries
@@ -132,7 +96,7 @@ module _ (source : ℕ) (d : ℕ) (us ps : List ℕ) (hu : d < length us) (hp : 
           entries-then =
               rw q
               (ap (λ (n : ℕ). entriesTo source n us ps) (sym (grown-no d (k + 1) (λ z. omega arith)))
-              ∙ grows false (ne-eqb k d (λ z. omega arith)));
+              ∙ sym (add-found same (entriesTo source d us ps) (entryMade source u p) (omega (arith, ld, e))));
         }
 
     -- they are not, and come next
@@ -156,7 +120,7 @@ module _ (source : ℕ) (d : ℕ) (us ps : List ℕ) (hu : d < length us) (hp : 
               ∙ ap₂ (λ (a b : List ℕ). entriesTo source (suc d) a b) eu ep
               ∙ ap₂ (entriesWith source) (take-suc-set us d u hu) (take-suc-set ps d p hp)
               ∙ entries-snoc source (take d us) (take d ps) u p (lu ∙ sym lp)
-              ∙ grows true (eq-eqb k d h));
+              ∙ sym (add-end same (entriesTo source d us ps) (entryMade source u p) (omega (arith, ld, e))));
         }
 
 -- the index of as many entries as there are after a mark
@@ -176,7 +140,7 @@ module _ (source : ℕ) (x : Sets) where
   no-users e = rw (eq-eqb (x .users) 0 e)
 
   pub no-permissions : x .permissions ≡ 0 → keptWith source x ≡ none
-  no-permissions e = rw (eq-eqb (x .permissions) 0 e) (ap (λ (b : Bool). pick b (some (entryOf source x)) none) (and-no (not (eqb (x .users) 0))))
+  no-permissions e = rw (eq-eqb (x .permissions) 0 e) (ap (λ (b : Bool). pick b (some (entryOf source x)) none) (and-false (not (eqb (x .users) 0))))
 
   pub both-sets : (x .users ≡ 0 → ⊥) → (x .permissions ≡ 0 → ⊥) → keptWith source x ≡ some (entryOf source x)
   both-sets p q = rw (ne-eqb (x .users) 0 p, ne-eqb (x .permissions) 0 q)

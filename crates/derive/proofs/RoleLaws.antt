@@ -5,7 +5,7 @@
 -- Assumes nothing.
 use Prim.Native.Nat.{ℕ, zero, suc, _^_, _≤_, _<_}
 use mathlib.Core.Path.{_≡_, refl, sym, _∙_, ap, ap₂}
-use mathlib.Core.Bool.{Bool, true, false, not, _&&_, _||_}
+use mathlib.Core.Bool.{Bool, true, false, not, _&&_, _||_, and-false, and-assoc, and-or-distrib-left, or-false}
 use mathlib.Core.Option.{none, some}
 use mathlib.Core.List.{List, [], _∷_}
 use native.Mathlib.Nat.{lt-of-lt-of-le}
@@ -17,7 +17,8 @@ use borrow.Author.Tests.{leb-false, eqb-true, ne-eqb, eq-eqb, lt-ltb, ltb-false}
 use Rattle.ground.specs.Choice.{pick}
 use Rattle.ground.specs.Search.{any, anyBelow}
 use Rattle.ground.specs.Sequence.{All}
-use Rattle.ground.proofs.SearchLaws.{any-same, any-stop, or-false}
+use Rattle.ground.proofs.SearchLaws.{any-same, any-stop, any-none-of}
+use Rattle.ground.proofs.ListLaws.{some-same}
 use Rattle.ground.proofs.SequenceLaws.{get-listOf}
 use Rattle.bitset.specs.Sets.{has, setOf, union}
 use Rattle.bitset.proofs.SetLaws.{has-none, has-union, has-setOf, setOf-lt, ext}
@@ -28,7 +29,6 @@ use Rattle.rota.specs.Rota.{Row, Rota}
 use Rattle.rota.specs.RotaWell.{RefWell, RowWell, RotaWell}
 use Rattle.derivation.specs.Masks.{slotOf, assignedIn, usersIn, permissionsIn, keptIn}
 use Rattle.derive.specs.Role.{unionOf, setsMade, setsIn, keptWith, keptBy, atSlot, bySlot, roleOf}
-use Rattle.derive.proofs.FindLaws.{and-no}
 
 pub slot-small : (h : ℕ) (ref : HoursRef) → h ≤ 32 → RefWell h ref → slotOf ref < 33
 unfolding slotOf dangling
@@ -45,20 +45,6 @@ numbers-small top roles h (w ∷ rows) a = (a .0 .number, numbers-small top role
 
 -- ---- searches
 
-and-assoc : (a b c : Bool) → ((a && b) && c) ≡ (a && (b && c))
-and-assoc true b c = refl
-and-assoc false b c = refl
-
-any-with : (f g : Row → Bool) (rows : List Row) → ((w : Row) → f w ≡ g w) → any f rows ≡ any g rows
-unfolding any
-any-with f g [] h = refl
-any-with f g (w ∷ rows) h = ap₂ _||_ (h w) (any-with f g rows h)
-
-any-no : (n : ℕ) (f : ℕ → Bool) → ((j : ℕ) → f j ≡ false) → anyBelow n f ≡ false
-unfolding anyBelow
-any-no zero f h = refl
-any-no (suc n) f h = rw (any-no n f h) (h n)
-
 or-swap : (a b p q : Bool) → ((a || b) || (p || q)) ≡ ((a || p) || (b || q))
 or-swap true b p q = refl
 or-swap false true true q = refl
@@ -70,10 +56,6 @@ unfolding anyBelow
 any-or zero f g = refl
 any-or (suc n) f g = ap (λ (b : Bool). b || (f n || g n)) (any-or n f g) ∙ or-swap (anyBelow n f) (anyBelow n g) (f n) (g n)
 
-and-or : (a b c : Bool) → (a && (b || c)) ≡ ((a && b) || (a && c))
-and-or true b c = refl
-and-or false b c = refl
-
 -- ---- the slots of a mask
 
 module _ (m : ℕ) where
@@ -82,24 +64,24 @@ module _ (m : ℕ) where
     where
       self : (s : ℕ) → eqb s s ≡ true
       self s = eq-eqb s s refl
-  at-one s false e l = any-no 33 (λ j. has m j && eqb s j) (λ j. go j (eqb s j) refl)
+  at-one s false e l = any-none-of 33 (λ j. has m j && eqb s j) (λ j l. go j (eqb s j) refl)
     where
       go : (j : ℕ) (q : Bool) → eqb s j ≡ q → (has m j && q) ≡ false
       go j true w = ap (λ (b : Bool). b && true) (ap (has m) (sym (eqb-true s j w)) ∙ e)
-      go j false w = and-no (has m j)
+      go j false w = and-false (has m j)
 
   with-test : (a : Bool) (s : ℕ) → s < 33 → anyBelow 33 (λ j. has m j && (a && eqb s j)) ≡ (a && has m s)
   with-test true s l = at-one s (has m s) refl l
-  with-test false s l = any-no 33 (λ j. has m j && false) (λ j. and-no (has m j))
+  with-test false s l = any-none-of 33 (λ j. has m j && false) (λ j l. and-false (has m j))
 
   by-rows : (a : Row → Bool) (rows : List Row) → All (λ (w : Row). slotOf (w .hours) < 33) rows
       → anyBelow 33 (λ j. has m j && any (λ (w : Row). a w && eqb (slotOf (w .hours)) j) rows) ≡ any (λ (w : Row). a w && has m (slotOf (w .hours))) rows
   unfolding any
-  by-rows a [] s = any-no 33 (λ j. has m j && false) (λ j. and-no (has m j))
+  by-rows a [] s = any-none-of 33 (λ j. has m j && false) (λ j l. and-false (has m j))
   by-rows a (w ∷ rows) s =
       any-same 33 (λ j. has m j && ((a w && eqb (slotOf (w .hours)) j) || any (λ (v : Row). a v && eqb (slotOf (v .hours)) j) rows))
       (λ j. (has m j && (a w && eqb (slotOf (w .hours)) j)) || (has m j && any (λ (v : Row). a v && eqb (slotOf (v .hours)) j) rows))
-      (λ j l. and-or (has m j) (a w && eqb (slotOf (w .hours)) j) (any (λ (v : Row). a v && eqb (slotOf (v .hours)) j) rows))
+      (λ j l. and-or-distrib-left (has m j) (a w && eqb (slotOf (w .hours)) j) (any (λ (v : Row). a v && eqb (slotOf (v .hours)) j) rows))
       ∙ any-or 33 (λ j. has m j && (a w && eqb (slotOf (w .hours)) j)) (λ j. has m j && any (λ (v : Row). a v && eqb (slotOf (v .hours)) j) rows)
       ∙ ap₂ _||_ (with-test (a w) (slotOf (w .hours)) (s .0)) (by-rows a rows (s .1))
 
@@ -125,7 +107,7 @@ module _ (m : ℕ) where
 
   pulled : (a : Bool) (f : ℕ → Bool) → anyBelow 33 (λ j. has m j && (a && f j)) ≡ (a && anyBelow 33 (λ j. has m j && f j))
   pulled true f = refl
-  pulled false f = any-no 33 (λ j. has m j && false) (λ j. and-no (has m j))
+  pulled false f = any-none-of 33 (λ j. has m j && false) (λ j l. and-false (has m j))
 
   -- no row has a number that is out of range
   past : (top i : ℕ) (a : Row → Bool) (rows : List Row) → top ≤ i → All (λ (w : Row). w .number < top) rows → any (λ (w : Row). eqb (w .number) i && a w) rows ≡ false
@@ -140,8 +122,8 @@ module _ (m : ℕ) where
   in-range top i r rows l n true e = rw (lt-ltb i 64 l)
   in-range top i r rows l n false e =
       rw (lt-ltb i 64 l)
-      (any-with (λ (w : Row). eqb (w .number) i && eqb (w .role) r && has m (slotOf (w .hours))) (λ (w : Row). eqb (w .number) i && (eqb (w .role) r && has m (slotOf (w .hours)))) rows
-      (λ w. and-assoc (eqb (w .number) i) (eqb (w .role) r) (has m (slotOf (w .hours))))
+      (some-same (λ (w : Row). eqb (w .number) i && eqb (w .role) r && has m (slotOf (w .hours))) (λ (w : Row). eqb (w .number) i && (eqb (w .role) r && has m (slotOf (w .hours)))) rows
+      (λ w k. and-assoc (eqb (w .number) i) (eqb (w .role) r) (has m (slotOf (w .hours))))
       ∙ past top i (λ (w : Row). eqb (w .role) r && has m (slotOf (w .hours))) rows (ltb-false i top e) n)
 
   pub union-rows : (top : ℕ) (rows : List Row) (r : ℕ) → top ≤ 64 → All (λ (w : Row). w .number < top) rows → All (λ (w : Row). slotOf (w .hours) < 33) rows

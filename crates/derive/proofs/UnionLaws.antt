@@ -2,7 +2,7 @@
 -- Assumes nothing.
 use Prim.Native.Nat.{ℕ, zero, suc, _+_, _-_, _/_, _%_, _^_, _≤_, _<_}
 use mathlib.Core.Path.{_≡_, refl, sym, _∙_, ap}
-use mathlib.Core.Bool.{Bool, true, false, not, _&&_, _||_}
+use mathlib.Core.Bool.{Bool, true, false, not, _&&_, _||_, or-false}
 use mathlib.Core.List.{List}
 use native.Mathlib.Omega.{arith}
 use lib.Dec.{eqb}
@@ -10,7 +10,6 @@ use lib.ListN.{getD}
 use lib.Pow.{shr-shr}
 use borrow.Author.Tests.{eq-eqb, ne-eqb, eqb-true}
 use Rattle.ground.proofs.BoolLaws.{clash, and-left}
-use Rattle.ground.proofs.SearchLaws.{or-false}
 use Rattle.bitset.specs.Sets.{has, setOf, union, intersection, Lowest}
 use Rattle.bitset.proofs.SetLaws.{has-none, has-below, has-intersection, setOf-has}
 use Rattle.derive.specs.Role.{inUse, usedIn, unionOf}

@@ -7,7 +7,7 @@
 use Prim.Native.Nat.{ℕ, zero, suc, _+_, _-_, _*_, _%_, _≤_, _<_}
 use mathlib.Core.Path.{_≡_, refl, sym, ap, ap₂, _∙_}
 use mathlib.Core.Bool.{_&&_}
-use mathlib.Core.List.{List, [], _∷_, _++_, map, List·Memᴰ, append-assoc, append-nil}
+use mathlib.Core.List.{List, [], _∷_, _++_, map, List·Memᴰ, append-assoc, append-nil, map-append}
 use native.Mathlib.Nat.{le-antisymm, mul-le-mul-right}
 use native.Mathlib.Numerals.{add-one}
 use native.Mathlib.Omega.{arith}
@@ -48,18 +48,10 @@ unfolding listOf
 listOf-same zero f g h = refl
 listOf-same (suc n) f g h = ap₂ (λ l x. l ++ (x ∷ [])) (listOf-same n f g (λ k l. h k (omega arith))) (h n (omega arith))
 
-map-snoc {ℓ ℓ'} : {A : Type ℓ} {B : Type ℓ'} (f : A → B) (l : List A) (x : A) → map f (l ++ (x ∷ [])) ≡ map f l ++ (f x ∷ [])
-map-snoc f [] x = refl
-map-snoc f (y ∷ l) x = ap (λ r. f y ∷ r) (map-snoc f l x)
-
 pub map-listOf {ℓ ℓ'} : {A : Type ℓ} {B : Type ℓ'} (f : A → B) (n : ℕ) (g : ℕ → A) → map f (listOf n g) ≡ listOf n (λ k. f (g k))
 unfolding listOf
 map-listOf f zero g = refl
-map-listOf f (suc n) g = map-snoc f (listOf n g) (g n) ∙ ap (λ l. l ++ (f (g n) ∷ [])) (map-listOf f n g)
-
-map-join {ℓ ℓ'} : {A : Type ℓ} {B : Type ℓ'} (f : A → B) (l m : List A) → map f (l ++ m) ≡ map f l ++ map f m
-map-join f [] m = refl
-map-join f (y ∷ l) m = ap (λ r. f y ∷ r) (map-join f l m)
+map-listOf f (suc n) g = map-append f (listOf n g) (g n ∷ []) ∙ ap (λ l. l ++ (f (g n) ∷ [])) (map-listOf f n g)
 
 fields-snoc : (es cs : List Gap) (e : Gap) → fieldsOf (es ++ (e ∷ [])) cs ≡ fieldsOf es cs ++ map (fieldOf e) cs
 unfolding fieldsOf
@@ -156,7 +148,7 @@ module _ (s : List ℕ) (ok : rotaJudged s ≡ 0) where
           stored : take (first + nc) after ≡ map (maskOf (rotaOf s)) (fieldsOf (listOf (i + 1) (gapAt eras)) (gaps (cellCuts (rotaOf s))))
           stored =
               e ∙ ap₂ (λ (x y : List ℕ). x ++ y) (w .stored) row
-              ∙ sym (map-join (maskOf (rotaOf s)) (fieldsOf (listOf i (gapAt eras)) cs) (map (fieldOf (gapAt eras i)) cs))
+              ∙ sym (map-append (maskOf (rotaOf s)) (fieldsOf (listOf i (gapAt eras)) cs) (map (fieldOf (gapAt eras i)) cs))
               ∙ ap (map (maskOf (rotaOf s)))
               (sym (fields-snoc (listOf i (gapAt eras)) cs (gapAt eras i)) ∙ ap (λ (es : List Gap). fieldsOf es cs) (sym (listOf-more i (gapAt eras))))
 

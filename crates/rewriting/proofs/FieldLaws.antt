@@ -7,7 +7,7 @@ use native.Mathlib.Numerals.{add-one}
 use native.Mathlib.Omega.{arith}
 use native.Mathlib.Nat.{mul-le-mul-right}
 use lib.ListN.{length, getD, take, drop, length-drop, length-map}
-use lib.Seq.{sets, getD-drop, length-take-le, take-take, drop-drop}
+use lib.Seq.{sets, getD-drop, length-take-le, take-take, drop-drop, slice-empty, slice-cons}
 use Rattle.minutes.specs.Minutes.{Window}
 use Rattle.ground.specs.Sequence.{joined}
 use Rattle.table.specs.Table.{Row}
@@ -16,7 +16,7 @@ use Rattle.table.specs.Answers.{rowMade}
 use Rattle.derivation.specs.Cuts.{Gap, gapsFrom, gaps}
 use Rattle.derivation.specs.Rewriting.{fieldOf, fieldsOf}
 use Rattle.derivation.proofs.RoleMarks.{marked, rowsMarked}
-use Rattle.derive.proofs.FindLaws.{step-drop, no-drop}
+use Rattle.derivation.proofs.TableCuts.{gaps-length}
 use Rattle.rewriting.specs.Parts.{cellOf, eraRows, roleRows}
 use Rattle.rewriting.proofs.WriteLaws.{Writing, row-long, writing-turn, writing-room}
 
@@ -37,23 +37,17 @@ gaps-start n (x ∷ l) h = ap (λ (k : ℕ). gaps (take k (x ∷ l))) (add-one n
 module _ (i n : ℕ) (l : List ℕ) (h : i < n) (k : n < length l) where
   gaps-step : gapsLeft i n l ≡ gap (getD l i 0) (getD l (suc i) 0) ∷ gapsLeft (suc i) n l
   unfolding gapsFrom
-  gaps-step = ap (gapsFrom (getD l i 0)) (step-drop (suc i) (suc n) l (omega arith) k)
+  gaps-step = ap (gapsFrom (getD l i 0)) (slice-cons (suc i) (suc n) l 0 (omega arith) k)
 
   pub gaps-turn : gapsLeft i n l ≡ gap (getD l i 0) (getD l (i + 1) 0) ∷ gapsLeft (i + 1) n l
   gaps-turn = gaps-step ∙ ap (λ (j : ℕ). gap (getD l i 0) (getD l j 0) ∷ gapsLeft j n l) (sym (add-one i))
 
 pub gaps-none : (i n : ℕ) (l : List ℕ) → n < length l → i ≡ n → gapsLeft i n l ≡ []
 unfolding gapsFrom
-gaps-none i n l h e = ap (λ (k : ℕ). gapsLeft k n l) e ∙ ap (gapsFrom (getD l n 0)) (no-drop (suc n) l h)
-
-gaps-length : (a : ℕ) (l : List ℕ) → length (gapsFrom a l) ≡ length l
-unfolding gapsFrom
-gaps-length a [] = refl
-gaps-length a (x ∷ l) = ap suc (gaps-length x l)
+gaps-none i n l h e = ap (λ (k : ℕ). gapsLeft k n l) e ∙ ap (gapsFrom (getD l n 0)) (slice-empty (suc n) l)
 
 pub gaps-count : (n : ℕ) (l : List ℕ) → n < length l → length (gaps (take (n + 1) l)) ≡ n
-gaps-count n l h =
-    ap length (gaps-start n l h) ∙ gaps-length (getD l 0 0) (drop 1 (take (suc n) l)) ∙ (length-drop 1 (take (suc n) l) ∙ omega (arith, length-take-le (suc n) l h))
+gaps-count n l h = gaps-length (take (n + 1) l) ∙ omega (arith, length-take-le (n + 1) l (omega arith))
 
 -- ---- rows
 
@@ -91,7 +85,7 @@ era-step : (base b e c nc : ℕ) (cells ms : List ℕ) → c < nc → nc < lengt
 unfolding rowsMarked
 era-step base b e c nc cells ms h hc hm =
     ap₂ (λ (g : List Gap) (l : List ℕ). rowsMarked base (map (fieldOf (gap b e)) g) l) (gaps-turn c nc cells h hc)
-    (step-drop c nc ms h hm ∙ ap (λ (k : ℕ). getD ms c 0 ∷ drop k (take nc ms)) (sym (add-one c)))
+    (slice-cons c nc ms 0 h hm ∙ ap (λ (k : ℕ). getD ms c 0 ∷ drop k (take nc ms)) (sym (add-one c)))
     ∙ marked-front base (fieldOf (gap b e) (gap (getD cells c 0) (getD cells (c + 1) 0))) (getD ms c 0) (eraLeft base b e (c + 1) nc cells ms)
 
 pub era-turn : (base b e c nc : ℕ) (cells marks : List ℕ) (first : ℕ) → c < nc → nc < length cells → first + nc ≤ length marks

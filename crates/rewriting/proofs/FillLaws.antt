@@ -10,6 +10,7 @@ use lib.Seq.{sets, length-sets}
 use Rattle.ground.specs.Sequence.{joined}
 use Rattle.ground.proofs.SequenceLaws.{joined-append}
 use Rattle.endian.proofs.WrittenLaws.{sets-append}
+use Rattle.endian.proofs.StandsLaws.{joined-length}
 use Rattle.rota.specs.RotaBytes.{rolesOf, rotaOf}
 use Rattle.table.specs.Table.{Entry, Row}
 use Rattle.table.specs.TableBytes.{entryBytes, rowBytes}
@@ -21,7 +22,7 @@ use Rattle.derive.specs.Derive.{entriesTo}
 use Rattle.derive.specs.declared.Count.{Count}
 use Rattle.grid.specs.Grid.{Cuts, Divided, Laid}
 use Rattle.rewriting.specs.Parts.{RoleDerived, roleRows}
-use Rattle.rewriting.proofs.WriteLaws.{entry-long, row-long, joined-long, sets-comm}
+use Rattle.rewriting.proofs.WriteLaws.{entry-long, row-long, sets-comm}
 use Rattle.rewriting.proofs.CountLaws.{all-entries, all-rows}
 
 -- the arrays have the rota's fields
@@ -97,9 +98,9 @@ module _ (s : List ℕ) (total : ℕ) where
           let e′ = joined entryBytes (entriesFrom (rotaOf s) (rolesOf s - (r + 1)) (r + 1)) in
           let f = joined rowBytes (rowsAt (rotaOf s) r d) in
           let f′ = joined rowBytes (rowsFrom (rotaOf s) (rolesOf s - (r + 1)) (r + 1) (d + k .entries)) in
-          let le : length e ≡ 17 * k .entries = joined-long entryBytes 17 entry-long (entriesAt (rotaOf s) r) ∙ ap (λ (x : ℕ). 17 * x) (sym (q .entry-count)) in
-          let le′ : length e′ ≡ 17 * length (entriesFrom (rotaOf s) (rolesOf s - (r + 1)) (r + 1)) = joined-long entryBytes 17 entry-long _ in
-          let lf : length f ≡ 16 * length (rowsAt (rotaOf s) r d) = joined-long rowBytes 16 row-long (rowsAt (rotaOf s) r d) in
+          let le : length e ≡ 17 * k .entries = joined-length entryBytes 17 entry-long (entriesAt (rotaOf s) r) ∙ ap (λ (x : ℕ). 17 * x) (sym (q .entry-count)) in
+          let le′ : length e′ ≡ 17 * length (entriesFrom (rotaOf s) (rolesOf s - (r + 1)) (r + 1)) = joined-length entryBytes 17 entry-long _ in
+          let lf : length f ≡ 16 * length (rowsAt (rotaOf s) r d) = joined-length rowBytes 16 row-long (rowsAt (rotaOf s) r d) in
           let lp : p′ ≡ p + 16 * length (rowsAt (rotaOf s) r d) = ep ∙ ap (λ (x : List Row). p + 16 * length x) er in
           let so : out₂ ≡ sets (sets out (16 + 17 * d) e) p f
           = e₂ ∙ ap₂ (λ (x : List ℕ) (y : List Row). sets x p (joined rowBytes y)) (e₁ ∙ ap (λ (x : List Entry). sets out (16 + 17 * d) (joined entryBytes x)) (q .entries-are)) er in

@@ -2,7 +2,7 @@
 -- Assumes nothing.
 use Prim.Native.Nat.{ℕ, _+_, _<_}
 use mathlib.Core.Path.{_≡_, refl, sym, _∙_, ap, ap₂}
-use mathlib.Core.Bool.{Bool, true, false, _&&_, _||_}
+use mathlib.Core.Bool.{Bool, true, false, _&&_, _||_, and-true, and-false, or-false}
 use mathlib.Core.List.{List, [], _∷_, _++_}
 use native.Mathlib.Numerals.{add-one}
 use native.Mathlib.Omega.{arith}
@@ -12,6 +12,7 @@ use lib.Seq.{ext-getD, getD-set-same, getD-set-other}
 use borrow.Author.Tests.{eq-eqb, ne-eqb, eqb-true, eqb-false}
 use Rattle.ground.specs.Search.{any}
 use Rattle.ground.specs.Sequence.{listOf}
+use Rattle.ground.proofs.SearchLaws.{any-append}
 use Rattle.ground.proofs.SequenceLaws.{listOf-length, get-listOf}
 use Rattle.bitset.specs.Sets.{has, setOf, insert}
 use Rattle.bitset.proofs.SetLaws.{has-below, setOf-same}
@@ -25,28 +26,7 @@ use Rattle.rewriting.specs.Parts.{RowsFit}
 
 any-snoc : (f : Row → Bool) (rows : List Row) (w : Row) → any f (rows ++ (w ∷ [])) ≡ (any f rows || f w)
 unfolding any
-any-snoc f [] w = or-no (f w)
-  where
-    or-no : (b : Bool) → (b || false) ≡ b
-    or-no true = refl
-    or-no false = refl
-any-snoc f (v ∷ rows) w = ap (λ (b : Bool). f v || b) (any-snoc f rows w) ∙ or-assoc (f v) (any f rows) (f w)
-  where
-    or-assoc : (a b c : Bool) → (a || (b || c)) ≡ ((a || b) || c)
-    or-assoc true b c = refl
-    or-assoc false b c = refl
-
-and-no : (b : Bool) → (b && false) ≡ false
-and-no true = refl
-and-no false = refl
-
-and-yes : (b : Bool) → (b && true) ≡ b
-and-yes true = refl
-and-yes false = refl
-
-or-none : (b : Bool) → (b || false) ≡ b
-or-none true = refl
-or-none false = refl
+any-snoc f rows w = any-append f rows (w ∷ []) ∙ ap (λ (b : Bool). any f rows || b) (or-false (f w))
 
 eqb-swap : (x y : ℕ) → eqb x y ≡ eqb y x
 eqb-swap x y = go (eqb x y) refl
@@ -74,7 +54,7 @@ module _ (rows : List Row) (w : Row) (r : ℕ) where
       any-snoc (λ (v : Row). eqb (v .number) x && eqb (v .role) r && eqb (slotOf (v .hours)) k) rows w
       ∙ ap (λ (b : Bool). any (λ (v : Row). eqb (v .number) x && eqb (v .role) r && eqb (slotOf (v .hours)) k) rows || b)
       (out (eqb (w .number) x) (eqb (w .role) r) (eqb (slotOf (w .hours)) k) e)
-      ∙ or-none (any (λ (v : Row). eqb (v .number) x && eqb (v .role) r && eqb (slotOf (v .hours)) k) rows))
+      ∙ or-false (any (λ (v : Row). eqb (v .number) x && eqb (v .role) r && eqb (slotOf (v .hours)) k) rows))
     where
       out : (a b c : Bool) → (b && c) ≡ false → ((a && b) && c) ≡ false
       out true b c h = h
@@ -89,7 +69,7 @@ module _ (rows : List Row) (w : Row) (r : ℕ) where
       (λ x. any (λ (v : Row). eqb (v .number) x && eqb (v .role) r && eqb (slotOf (v .hours)) (slotOf (w .hours))) (rows ++ (w ∷ [])))
       (λ x l.
       ap₂ _||_ (has-below 64 (λ y. any (λ (v : Row). eqb (v .number) y && eqb (v .role) r && eqb (slotOf (v .hours)) (slotOf (w .hours))) rows) x l)
-      (eqb-swap x (w .number) ∙ sym (rw (eq-eqb (w .role) r e, eq-eqb (slotOf (w .hours)) (slotOf (w .hours)) refl) (and-yes (eqb (w .number) x && true) ∙ and-yes (eqb (w .number) x))))
+      (eqb-swap x (w .number) ∙ sym (rw (eq-eqb (w .role) r e, eq-eqb (slotOf (w .hours)) (slotOf (w .hours)) refl) (and-true (eqb (w .number) x && true) ∙ and-true (eqb (w .number) x))))
       ∙ sym (any-snoc (λ (v : Row). eqb (v .number) x && eqb (v .role) r && eqb (slotOf (v .hours)) (slotOf (w .hours))) rows w))
 
   row-out : (w .role ≡ r → ⊥) → bySlot rows r ≡ bySlot (rows ++ (w ∷ [])) r
@@ -116,7 +96,7 @@ module _ (rows : List Row) (w : Row) (r : ℕ) where
       go j h false q =
           getD-set-other (bySlot rows r) k j v 0 (λ e. eqb-false k j q (sym e))
           ∙ by-slot-get rows r j h
-          ∙ sym (other j (ap (λ (b : Bool). eqb (w .role) r && b) (ap (λ (x : ℕ). eqb x j) (sym ek) ∙ q) ∙ and-no (eqb (w .role) r)))
+          ∙ sym (other j (ap (λ (b : Bool). eqb (w .role) r && b) (ap (λ (x : ℕ). eqb x j) (sym ek) ∙ q) ∙ and-false (eqb (w .role) r)))
           ∙ sym (by-slot-get (rows ++ (w ∷ [])) r j h)
 
 -- ---- the loop over rows given by index

@@ -13,6 +13,7 @@ use Rattle.table.specs.declared.Counts.{Counts}
 use Rattle.ground.specs.Sequence.{joined}
 use Rattle.ground.specs.Outcome.{refused, given}
 use Rattle.endian.specs.Numbers.{bytes16, bytes32}
+use Rattle.endian.proofs.StandsLaws.{joined-length}
 use Rattle.rota.specs.RotaBytes.{cycleOf, hoursOf, rotaOf}
 use Rattle.rota.specs.RotaRefusals.{rotaJudged}
 use Rattle.rota.specs.declared.Layout.{Layout}
@@ -24,7 +25,7 @@ use Rattle.rewriting.specs.Parts.{HeaderFits, started, lengthWith, Count
 use Rattle.rewriting.proofs.AnswerLaws.{too-long, written}
 use Rattle.derive.specs.declared.Count.{Count}
 use Rattle.rota.proofs.LocatedLaws.{fine, counted}
-use Rattle.rewriting.proofs.WriteLaws.{entry-long, row-long, joined-long, three-runs}
+use Rattle.rewriting.proofs.WriteLaws.{entry-long, row-long, three-runs}
 
 -- the header of a table with d entries and n rows
 abbrev pub countsWith : Layout → ℕ → ℕ → Counts
@@ -86,8 +87,8 @@ module _ (s : List ℕ) (l : Layout) (w : Located s l) where
         let τ = rewrite (rotaOf s) in
         let e = joined entryBytes (τ .entries) in
         let r = joined rowBytes (τ .rows) in
-        let le : length e ≡ 17 * length (τ .entries) = joined-long entryBytes 17 entry-long (τ .entries) in
-        let lr : length r ≡ 16 * length (τ .rows) = joined-long rowBytes 16 row-long (τ .rows) in
+        let le : length e ≡ 17 * length (τ .entries) = joined-length entryBytes 17 entry-long (τ .entries) in
+        let lr : length r ≡ 16 * length (τ .rows) = joined-length rowBytes 16 row-long (τ .rows) in
         e₂ ∙ ap (λ (x : List ℕ). sets (sets x 16 e) (16 + 17 * d) r) (e₁ ∙ ap (sets out 0) header-is)
         ∙ three-runs out (headerBytes (τ .cycle) (τ .users) (τ .permissions) (τ .roles) (length (τ .entries)) (length (τ .rows))) e r (16 + 17 * d)
         (header-long (τ .cycle) (τ .users) (τ .permissions) (τ .roles) (length (τ .entries)) (length (τ .rows))) (omega (arith, ed)) (omega arith)

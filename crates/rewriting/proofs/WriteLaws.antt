@@ -9,6 +9,7 @@ use lib.Seq.{sets, length-sets, set-comm, sets-eq}
 use Rattle.ground.specs.Sequence.{joined}
 use Rattle.ground.proofs.SequenceLaws.{joined-append}
 use Rattle.endian.specs.Numbers.{bytes16, bytes32, bytes64}
+use Rattle.endian.proofs.StandsLaws.{joined-length}
 use Rattle.endian.proofs.WrittenLaws.{sets-append}
 use Rattle.table.specs.Table.{Entry, Row}
 use Rattle.table.specs.TableBytes.{entryBytes, rowBytes}
@@ -20,13 +21,6 @@ entry-long x = refl
 pub row-long : (w : Row) → length (rowBytes w) ≡ 16
 unfolding rowBytes bytes32 bytes16
 row-long w = refl
-
--- items that each take z bytes
-module _ {A : Type 0} (e : A → List ℕ) (z : ℕ) (each : (x : A) → length (e x) ≡ z) where
-  pub joined-long : (xs : List A) → length (joined e xs) ≡ z * length xs
-  unfolding joined
-  joined-long [] = omega arith
-  joined-long (x ∷ xs) = length-append (e x) (joined e xs) ∙ omega (arith, each x, joined-long xs)
 
 -- `left` is still to be written at p into out; `whole` was to be written at `at` into out₀
 pub record Writing {A : Type 0} (e : A → List ℕ) (z : ℕ) (whole : List A) (at : ℕ) (out₀ : List ℕ) (left : List A) (p : ℕ) (out : List ℕ) : Type 0 where
@@ -45,7 +39,7 @@ module _ {A : Type 0} {e : A → List ℕ} {z : ℕ} where
     writing-turn each first rest p′ out′ q eo ep =
         let n : length left ≡ length first + length rest = ap length q ∙ length-append first rest in
         let m : z * length left ≡ z * length first + z * length rest = ap (λ (k : ℕ). z * k) n ∙ omega arith in
-        let j : p′ ≡ p + length (joined e first) = ep ∙ ap (λ (k : ℕ). p + k) (sym (joined-long e z each first)) in
+        let j : p′ ≡ p + length (joined e first) = ep ∙ ap (λ (k : ℕ). p + k) (sym (joined-length e z each first)) in
         record {
           long = ap length eo ∙ length-sets out p (joined e first) ∙ w .long;
           place = omega (arith, w .place);

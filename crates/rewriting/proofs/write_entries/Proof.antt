@@ -56,7 +56,7 @@ same-length c = c .before .loop .inv .1 .long
 returns : tie.Need-returns Inv-loop μ-loop
 returns c = let a = c .before .before .before .before .before .args in let l = c .before .loop in
     let e : l .i ≡ a .d = omega arith in
-    writing-end (l .inv .1) (ap (λ (k : ℕ). entriesLeft (a .source) k (a .d) (a .us .now) (a .ps .now)) e ∙ left-none (a .source) (a .d) (a .us .now) (a .ps .now) (c .before .before .before .before .before .pre .1)) .0
+    writing-end (l .inv .1) (ap (λ (k : ℕ). entriesLeft (a .source) k (a .d) (a .us .now) (a .ps .now)) e ∙ left-none (a .source) (a .d) (a .us .now) (a .ps .now)) .0
 
 pub write-entries-spec : {M : Type 1} → statement M
 write-entries-spec =
