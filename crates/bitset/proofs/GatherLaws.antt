@@ -3,25 +3,19 @@
 --     lowest-of, none-of                    the lowest member of a set given by a test, and a set with no member
 -- Assumes nothing.
 use mathlib.Core.Path.{_≡_, sym, ap, ap₂, _∙_}
-use mathlib.Core.Bool.{Bool, true, false, _&&_, _||_}
+use mathlib.Core.Bool.{Bool, true, false, _&&_, _||_, or-false}
 use mathlib.Core.Option.{none, some}
 use Prim.Native.Nat.{ℕ, _+_, _≤_, _<_, _^_}
 use native.Mathlib.Nat.{lt-of-lt-of-le}
 use native.Mathlib.Omega.{arith}
-use lib.Dec.{T, eqb, ltb, eqb→eq}
+use lib.Dec.{eqb, ltb}
 use lib.Pow.{pow-pos, pow-mono}
-use borrow.Author.Tests.{eq-eqb, ltb-true}
+use borrow.Author.Tests.{ltb-true}
 use Rattle.ground.specs.Search.{anyBelow, lowestBelow}
-use Rattle.ground.proofs.BoolLaws.{T-ext, eq→T, and-yes}
-use Rattle.ground.proofs.SearchLaws.{any-none, any-turn, or-false, lowest-is, lowest-none}
+use Rattle.ground.proofs.BoolLaws.{and-yes, eqb-sym}
+use Rattle.ground.proofs.SearchLaws.{any-none, any-turn, lowest-is, lowest-none}
 use Rattle.bitset.specs.Sets.{has, setOf, insert, Lowest}
 use Rattle.bitset.proofs.SetLaws.{insert-lt, has-setOf, has-below, has-insert, has-none, setOf-has, setOf-lt, setOf-same}
-
-eqb-sym : (a b : ℕ) → eqb a b ≡ eqb b a
-eqb-sym a b = T-ext (eqb a b) (eqb b a) (λ h. flip a b h) (λ h. flip b a h)
-  where
-    flip : (a b : ℕ) → T (eqb a b) → T (eqb b a)
-    flip a b h = eq→T _ (eq-eqb b a (sym (eqb→eq a b h)))
 
 -- turn k puts target k in where its test holds
 module _ (n : ℕ) (top : n ≤ 64) (test : ℕ → Bool) (target : ℕ → ℕ) where

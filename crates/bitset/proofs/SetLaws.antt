@@ -1,5 +1,5 @@
 -- Laws of sets as numbers.
---     has-zero, has-suc                   the lowest bit, and the rest
+--     has-zero, has-suc, has-shifted      the lowest bit, the rest, and what is left past the lowest n
 --     has-or, has-and, has-not, has-one   members of what the machine's operations give; of the empty set: has-none
 --     ext, setOf-has                      sets with the same members are equal; a set is the one that its members pick
 --     has-setOf, setOf-lt, setOf-same     members of a set given by a test, and its size as a number
@@ -9,7 +9,7 @@
 --     setOf-none, turn-in, turn-out       a loop that gathers a set
 -- Assumes nothing.
 use mathlib.Core.Path.{_≡_, refl, sym, ap, ap₂, _∙_, subst}
-use mathlib.Core.Bool.{Bool, true, false, _&&_, _||_, not}
+use mathlib.Core.Bool.{Bool, true, false, _&&_, _||_, not, or-true, or-false}
 use Prim.Native.Nat.{ℕ, zero, suc, _+_, _-_, _*_, _/_, _%_, _^_, _≤_, _<_}
 use native.Mathlib.Nat.{mod-lt, lt-of-le-of-lt, lt-of-lt-of-le, zero-lt-suc, not-suc-le-zero, one-mul, div-one, div-add-mod', div-eq-of-lt}
 use native.Mathlib.Numerals.{one-add}
@@ -23,7 +23,7 @@ use borrow.Author.Tests.{eq-eqb, ne-eqb, eqb-true, eqb-false, lt-ltb, le-ltb, lt
 use Rattle.ground.specs.Search.{one, countBelow}
 use Rattle.ground.specs.Search.{anyBelow}
 use Rattle.ground.proofs.BoolLaws.{ltb-iff, T-ext, eq→T, clash}
-use Rattle.ground.proofs.SearchLaws.{any-stop, any-out, or-true, or-false}
+use Rattle.ground.proofs.SearchLaws.{any-stop, any-out}
 use Rattle.bitset.specs.Sets.{has, setOf, insert, remove, union, intersection, difference, count}
 
 -- ---- the lowest bit, and the rest
@@ -34,6 +34,10 @@ has-zero x = ap (λ (n : ℕ). eqb (n % 2) 1) (div-one x)
 pub has-suc : (x i : ℕ) → has x (suc i) ≡ has (x / 2) i
 unfolding has
 has-suc x i = ap (λ (n : ℕ). eqb (n % 2) 1) (ap (λ (e : ℕ). x / 2 ^ e) (sym (one-add i)) ∙ sym (shr-shr x 1 i))
+
+pub has-shifted : (x n i : ℕ) → has (x / 2 ^ n) i ≡ has x (n + i)
+unfolding has
+has-shifted x n i = ap (λ (y : ℕ). eqb (y % 2) 1) (shr-shr x n i)
 
 -- ---- digit by digit
 or-digit : (d e : ℕ) → d < 2 → e < 2 → eqb (bitOr d e) 1 ≡ (eqb d 1 || eqb e 1)
@@ -220,6 +224,10 @@ module _ (x y : ℕ) (fx : x < 2 ^ 64) (fy : y < 2 ^ 64) where
   difference-is =
       setOf-has 64 _ _ (lt-of-le-of-lt (and-le-l x ((2 ^ 64 - 1) - y)) fx)
       (λ j l. has-and x ((2 ^ 64 - 1) - y) j ∙ ap (λ (b : Bool). has x j && b) (has-not 64 y j fy l))
+
+pub union-nothing : (x : ℕ) → x < 2 ^ 64 → x ≡ union x 0
+unfolding union
+union-nothing x h = setOf-has 64 x (λ j. has x j || has 0 j) h (λ j l. sym (or-false (has x j)) ∙ ap (λ (b : Bool). has x j || b) (sym (has-none j)))
 
 -- two sets given by tests
 in-both : (l f g : Bool) → ((l && f) && (l && g)) ≡ (l && (f && g))

@@ -7,10 +7,10 @@
 --     addAll-append, addAll-skip                        one list after the other; a list in which none of the others is there
 -- Assumes nothing.
 use Rattle.ground.proofs.ListLaws.{all-append}
-use Rattle.ground.proofs.SearchLaws.{or-true, any-append}
+use Rattle.ground.proofs.SearchLaws.{any-append}
 use Prim.Native.Nat.{ℕ, suc, _+_, _≤_, _<_}
 use mathlib.Core.Path.{_≡_, refl, sym, ap, _∙_}
-use mathlib.Core.Bool.{Bool, true, false, _||_}
+use mathlib.Core.Bool.{Bool, true, false, _||_, or-true}
 use mathlib.Core.List.{List, [], _∷_, _++_, append-nil, append-assoc}
 use native.Mathlib.Omega.{arith}
 use borrow.Author.Tests.{ltb-true, lt-ltb, le-ltb}

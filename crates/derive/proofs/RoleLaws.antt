@@ -18,7 +18,7 @@ use Rattle.ground.specs.Choice.{pick}
 use Rattle.ground.specs.Search.{any, anyBelow}
 use Rattle.ground.specs.Sequence.{All}
 use Rattle.ground.proofs.SearchLaws.{any-same, any-stop, any-none-of}
-use Rattle.ground.proofs.ListLaws.{some-same}
+use Rattle.ground.proofs.ListLaws.{all-with, some-same}
 use Rattle.ground.proofs.SequenceLaws.{get-listOf}
 use Rattle.bitset.specs.Sets.{has, setOf, union}
 use Rattle.bitset.proofs.SetLaws.{has-none, has-union, has-setOf, setOf-lt, ext}
@@ -36,12 +36,10 @@ slot-small h Always l e = omega arith
 slot-small h (Numbered k) l e = omega (arith, leb-false h k e)
 
 slots-small : (top roles h : ℕ) (rows : List Row) → h ≤ 32 → All (RowWell top roles h) rows → All (λ (w : Row). slotOf (w .hours) < 33) rows
-slots-small top roles h [] l a = tt
-slots-small top roles h (w ∷ rows) l a = (slot-small h (w .hours) l (a .0 .hours), slots-small top roles h rows l (a .1))
+slots-small top roles h rows l a = all-with (λ w q. slot-small h (w .hours) l (q .hours)) rows a
 
 numbers-small : (top roles h : ℕ) (rows : List Row) → All (RowWell top roles h) rows → All (λ (w : Row). w .number < top) rows
-numbers-small top roles h [] a = tt
-numbers-small top roles h (w ∷ rows) a = (a .0 .number, numbers-small top roles h rows (a .1))
+numbers-small top roles h rows a = all-with (λ w q. q .number) rows a
 
 -- ---- searches
 

@@ -1,17 +1,16 @@
 -- The union over a mask, by the slots of the mask that are in use.
 -- Assumes nothing.
-use Prim.Native.Nat.{ℕ, zero, suc, _+_, _-_, _/_, _%_, _^_, _≤_, _<_}
+use Prim.Native.Nat.{ℕ, zero, suc, _+_, _-_, _/_, _^_, _≤_, _<_}
 use mathlib.Core.Path.{_≡_, refl, sym, _∙_, ap}
-use mathlib.Core.Bool.{Bool, true, false, not, _&&_, _||_, or-false}
+use mathlib.Core.Bool.{Bool, true, false, not, _&&_}
 use mathlib.Core.List.{List}
 use native.Mathlib.Omega.{arith}
 use lib.Dec.{eqb}
 use lib.ListN.{getD}
-use lib.Pow.{shr-shr}
 use borrow.Author.Tests.{eq-eqb, ne-eqb, eqb-true}
 use Rattle.ground.proofs.BoolLaws.{clash, and-left}
 use Rattle.bitset.specs.Sets.{has, setOf, union, intersection, Lowest}
-use Rattle.bitset.proofs.SetLaws.{has-none, has-below, has-intersection, setOf-has}
+use Rattle.bitset.proofs.SetLaws.{has-none, has-below, has-intersection, has-shifted, union-nothing}
 use Rattle.derive.specs.Role.{inUse, usedIn, unionOf}
 use Rattle.derive.proofs.FindLaws.{union-with, union-without}
 use Rattle.derive.proofs.RoleLaws.{union-lt}
@@ -31,16 +30,6 @@ used-all sets x k e h = e ∙ ap (λ (n : ℕ). setOf n (inUse sets)) h
 used-at : (sets : List ℕ) (k : ℕ) → k < 33 → has (usedIn sets) k ≡ inUse sets k
 unfolding usedIn
 used-at sets k h = has-below 33 (inUse sets) k h
-
--- ---- sets
-
-shifted : (x n i : ℕ) → has (x / 2 ^ n) i ≡ has x (n + i)
-unfolding has
-shifted x n i = ap (λ (y : ℕ). eqb (y % 2) 1) (shr-shr x n i)
-
-union-nothing : (x : ℕ) → x < 2 ^ 64 → x ≡ union x 0
-unfolding union
-union-nothing x h = setOf-has 64 x (λ j. has x j || has 0 j) h (λ j l. sym (or-false (has x j)) ∙ ap (λ (b : Bool). has x j || b) (sym (has-none j)))
 
 -- ---- from slot to slot
 
@@ -69,7 +58,7 @@ module _ (sets : List ℕ) (m s : ℕ) (es : s ≡ intersection m (usedIn sets))
     rest-none : ((j : ℕ) → j < 33 - n → has (s / 2 ^ n) j ≡ false) → x ≡ unionOf sets m 33
     rest-none f =
         let q : n + (33 - n) ≡ 33 = omega arith in
-        e ∙ skip (33 - n) n (omega arith) (λ j l. sym (shifted s n j) ∙ f j l) ∙ ap (unionOf sets m) q
+        e ∙ skip (33 - n) n (omega arith) (λ j l. sym (has-shifted s n j) ∙ f j l) ∙ ap (unionOf sets m) q
 
     -- no slot is left
     pub union-done : s / 2 ^ n ≡ 0 → x ≡ unionOf sets m 33
@@ -82,5 +71,5 @@ module _ (sets : List ℕ) (m s : ℕ) (es : s ≡ intersection m (usedIn sets))
       -- the lowest that is left
       pub union-turn : (y : ℕ) → n + r < 33 → y ≡ union x (getD sets (n + r) 0) → y ≡ unionOf sets m ((n + r) + 1)
       union-turn y h q =
-          union-with sets m (n + r) x (e ∙ skip r n (omega arith) (λ j l. sym (shifted s n j) ∙ low .below j l)) y
-          (and-left (has m (n + r)) (inUse sets (n + r)) (sym (slot-at (n + r) h) ∙ sym (shifted s n r) ∙ low .member)) q
+          union-with sets m (n + r) x (e ∙ skip r n (omega arith) (λ j l. sym (has-shifted s n j) ∙ low .below j l)) y
+          (and-left (has m (n + r)) (inUse sets (n + r)) (sym (slot-at (n + r) h) ∙ sym (has-shifted s n r) ∙ low .member)) q

@@ -1,11 +1,11 @@
 -- Numbers that fit their widths are spelled by bytes.
---     in8, in16, in32     numbers; one list after another: _then_; lists of items: in-joined
+--     in8, in16, in32, in64     numbers; one list after another: _then_; lists of items: in-joined
 -- Assumes nothing.
-use Prim.Native.Nat.{ℕ, zero, suc, _<_, _/_, _%_}
+use Prim.Native.Nat.{ℕ, zero, suc, _<_, _/_, _%_, _^_}
 use mathlib.Core.List.{List, [], _∷_, _++_}
 use native.Mathlib.Omega.{arith}
 use Rattle.ground.specs.Sequence.{joined, All}
-use Rattle.endian.specs.Numbers.{Bytes, bytes8, bytes16, bytes32}
+use Rattle.endian.specs.Numbers.{Bytes, bytes8, bytes16, bytes32, bytes64}
 
 infixl 20 _then_
 -- every element is a byte; `Bytes` under a name that does not compute away
@@ -37,6 +37,10 @@ in16 {v} l = in8 {v = v % 256} (omega arith) then in8 {v = v / 256} (omega arith
 pub in32 : {v : ℕ} → v < 4294967296 → AllBytes (bytes32 v)
 unfolding bytes32
 in32 {v} l = in16 {v = v % 65536} (omega arith) then in16 {v = v / 65536} (omega arith)
+
+pub in64 : {v : ℕ} → v < 2 ^ 64 → AllBytes (bytes64 v)
+unfolding bytes64
+in64 {v} l = in32 {v = v % 4294967296} (omega arith) then in32 {v = v / 4294967296} (omega arith)
 
 pub in-joined {ℓ} : {A : Type ℓ} (e : A → List ℕ) (P : A → Type 0) → ((x : A) → P x → AllBytes (e x)) → (xs : List A) → All P xs → AllBytes (joined e xs)
 unfolding joined

@@ -4,18 +4,17 @@
 --     Written, written-..                    the masks of the eras passed are stored
 --     eras-cut, cells-cut, divided, laid     the arrays of cuts, and all together
 -- Assumes nothing.
-use Prim.Native.Nat.{ℕ, zero, suc, _+_, _-_, _*_, _%_, _≤_, _<_}
+use Prim.Native.Nat.{ℕ, _+_, _-_, _*_, _%_, _≤_, _<_}
 use mathlib.Core.Path.{_≡_, refl, sym, ap, ap₂, _∙_}
 use mathlib.Core.Bool.{_&&_}
 use mathlib.Core.List.{List, [], _∷_, _++_, map, List·Memᴰ, append-assoc, append-nil, map-append}
 use native.Mathlib.Nat.{le-antisymm, mul-le-mul-right}
-use native.Mathlib.Numerals.{add-one}
 use native.Mathlib.Omega.{arith}
 use lib.ListN.{length, getD, take}
 use Rattle.ground.specs.Choice.{pick}
 use Rattle.ground.specs.Sequence.{listOf}
 use Rattle.ground.proofs.BoolLaws.{by-ltb}
-use Rattle.ground.proofs.SequenceLaws.{listOf-length, get-listOf}
+use Rattle.ground.proofs.SequenceLaws.{listOf-length, listOf-more, listOf-same, map-listOf, get-listOf}
 use Rattle.bitset.specs.Sets.{setOf, insert, intersection}
 use Rattle.bitset.proofs.SetLaws.{setOf-same, intersection-setOf}
 use Rattle.minutes.specs.Minutes.{E}
@@ -39,20 +38,6 @@ use Rattle.grid.proofs.OrderLaws.{gaps-at, gap-in, added-cuts}
 use Rattle.grid.proofs.FieldLaws.{holds-split}
 
 -- ---- by index
-listOf-more {ℓ} : {A : Type ℓ} (n : ℕ) (f : ℕ → A) → listOf (n + 1) f ≡ listOf n f ++ (f n ∷ [])
-unfolding listOf
-listOf-more n f = rw (add-one n)
-
-pub listOf-same {ℓ} : {A : Type ℓ} (n : ℕ) (f g : ℕ → A) → ((k : ℕ) → k < n → f k ≡ g k) → listOf n f ≡ listOf n g
-unfolding listOf
-listOf-same zero f g h = refl
-listOf-same (suc n) f g h = ap₂ (λ l x. l ++ (x ∷ [])) (listOf-same n f g (λ k l. h k (omega arith))) (h n (omega arith))
-
-pub map-listOf {ℓ ℓ'} : {A : Type ℓ} {B : Type ℓ'} (f : A → B) (n : ℕ) (g : ℕ → A) → map f (listOf n g) ≡ listOf n (λ k. f (g k))
-unfolding listOf
-map-listOf f zero g = refl
-map-listOf f (suc n) g = map-append f (listOf n g) (g n ∷ []) ∙ ap (λ l. l ++ (f (g n) ∷ [])) (map-listOf f n g)
-
 fields-snoc : (es cs : List Gap) (e : Gap) → fieldsOf (es ++ (e ∷ [])) cs ≡ fieldsOf es cs ++ map (fieldOf e) cs
 unfolding fieldsOf
 fields-snoc [] cs e = append-nil (map (fieldOf e) cs)

@@ -3,16 +3,16 @@
 --     or-yes, or-no, not-yes            a side of a disjunction that holds; both sides of one that fails; a test that does not hold
 --     leb-not, lt-or-le, by-ltb         comparisons the other way round, and as a choice
 --     T→eq, eq→T, T-ext, eq-ext         a fact is an equation with true; two tests that imply one another are equal
---     ltb-iff                           two comparisons that imply one another
+--     ltb-iff, eqb-sym                  two comparisons that imply one another; an equality the other way round
 --     pick-true, pick-false             a choice whose test is known
 -- Assumes nothing.
 use mathlib.Core.Path.{_≡_, refl, sym, subst}
 use mathlib.Core.Bool.{Bool, true, false, not, _&&_, _||_}
 use Prim.Native.Nat.{ℕ, _≤_, _<_}
 use mathlib.Core.Logic.{_⊎_, inl, inr}
-use borrow.Author.Tests.{ltb-true, ltb-false, lt-leb, le-leb}
+use borrow.Author.Tests.{ltb-true, ltb-false, lt-leb, le-leb, eq-eqb}
 use native.Mathlib.Omega.{arith}
-use lib.Dec.{T, leb, ltb, ltb→lt, lt→ltb}
+use lib.Dec.{T, leb, ltb, eqb, ltb→lt, lt→ltb, eqb→eq}
 use Rattle.ground.specs.Choice.{pick}
 
 pub and-l : (a b : Bool) → T (a && b) → T a
@@ -85,6 +85,12 @@ and-all a b c p q r = rw (p, q, r) refl
 
 pub ltb-iff : (a b c d : ℕ) → (a < b → c < d) → (c < d → a < b) → ltb a b ≡ ltb c d
 ltb-iff a b c d f g = T-ext (ltb a b) (ltb c d) (λ h. lt→ltb c d (f (ltb→lt a b h))) (λ h. lt→ltb a b (g (ltb→lt c d h)))
+
+pub eqb-sym : (a b : ℕ) → eqb a b ≡ eqb b a
+eqb-sym a b = T-ext (eqb a b) (eqb b a) (flip a b) (flip b a)
+  where
+    flip : (a b : ℕ) → T (eqb a b) → T (eqb b a)
+    flip a b h = eq→T _ (eq-eqb b a (sym (eqb→eq a b h)))
 
 -- b ≤ a is not a < b, and one of the two holds
 pub leb-not : (a b : ℕ) → leb b a ≡ not (ltb a b)

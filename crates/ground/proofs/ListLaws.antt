@@ -6,14 +6,13 @@
 use Prim.Native.Nat.{ℕ, zero, suc, _<_}
 use mathlib.Core.Path.{_≡_, refl, sym, ap, ap₂, _∙_, subst}
 use mathlib.Core.Logic.{⊎-elim}
-use mathlib.Core.Bool.{Bool, true, false, _||_}
+use mathlib.Core.Bool.{Bool, true, false, _||_, or-true}
 use mathlib.Core.List.{List, [], _∷_, _++_, map, List·Memᴰ, List·Memᴰ·head, List·Memᴰ·tail, List·Memᴰ·cases-cons, List·Memᴰ·not-nil}
 use native.Mathlib.Nat.{not-suc-le-zero, le-of-suc-le-suc}
 use lib.ListN.{length, getD}
 use Rattle.ground.specs.Search.{any}
 use Rattle.ground.specs.Sequence.{All}
 use Rattle.ground.proofs.BoolLaws.{clash, or-yes}
-use Rattle.ground.proofs.SearchLaws.{or-true}
 
 module _ {ℓ} {A : Type ℓ} where
   pub some-in : (f : A → Bool) {x : A} {l : List A} → List·Memᴰ x l → f x ≡ true → any f l ≡ true

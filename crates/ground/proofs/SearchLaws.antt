@@ -8,7 +8,7 @@
 use Prim.Native.Nat.{ℕ, zero, suc, _+_, _<_}
 use mathlib.Core.Path.{_≡_, refl, sym, ap, ap₂, _∙_}
 use mathlib.Core.Logic.{⊎-elim}
-use mathlib.Core.Bool.{Bool, true, false, _||_}
+use mathlib.Core.Bool.{Bool, true, false, _||_, or-true, or-false, or-assoc}
 use mathlib.Core.Option.{Option, none, some}
 use mathlib.Core.List.{List, [], _∷_, _++_}
 use native.Mathlib.Nat.{not-suc-le-zero, le-of-suc-le-suc, eq-or-lt-of-le, le-refl, lt-trans}
@@ -18,18 +18,6 @@ use Rattle.ground.specs.Choice.{pick}
 use Rattle.ground.specs.Search.{any, anyBelow, firstOf, lowestBelow}
 use Rattle.ground.specs.Sequence.{listOf}
 use Rattle.ground.proofs.BoolLaws.{pick-true, pick-false, not-yes, clash}
-
-pub or-true : (b : Bool) → (b || true) ≡ true
-or-true true = refl
-or-true false = refl
-
-pub or-false : (b : Bool) → (b || false) ≡ b
-or-false true = refl
-or-false false = refl
-
-or-assoc : (a b c : Bool) → ((a || b) || c) ≡ (a || (b || c))
-or-assoc true b c = refl
-or-assoc false b c = refl
 
 module _ (f : ℕ → Bool) where
   pub any-none : anyBelow 0 f ≡ false

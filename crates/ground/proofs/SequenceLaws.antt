@@ -1,16 +1,19 @@
 -- Laws of lists by index and of joined lists.
 --     listOf-length, listOf-cons, all-listOf, get-listOf   length, first element, a condition on every element, the element at an index
+--     listOf-more, listOf-same, map-listOf                 one element more; the same elements; each element mapped
 --     listOf-all, listOf-next, listOf-is                   from a condition on every element, or on neighbours, to the index; the list itself
 --     joined-append, joined-listOf                         joined lists, one part more
 -- Assumes nothing.
-use Prim.Native.Nat.{ℕ, zero, suc, _<_}
-use mathlib.Core.Path.{_≡_, refl, sym, _∙_, ap, subst, subst₂}
-use mathlib.Core.List.{List, [], _∷_, _++_, append-assoc, append-nil}
+use Prim.Native.Nat.{ℕ, zero, suc, _+_, _<_}
+use mathlib.Core.Path.{_≡_, refl, sym, _∙_, ap, ap₂, subst, subst₂}
+use mathlib.Core.List.{List, [], _∷_, _++_, map, append-assoc, append-nil, map-append}
+use native.Mathlib.Numerals.{add-one}
 use native.Mathlib.Omega.{arith}
 use native.Mathlib.Nat.{not-suc-le-zero, le-of-suc-le-suc}
 use lib.ListN.{length, getD, length-append}
 use lib.Seq.{ext-getD}
 use Rattle.ground.specs.Sequence.{listOf, joined, All}
+use Rattle.ground.proofs.ListLaws.{all-in, at-in}
 
 pub listOf-length {ℓ} : {A : Type ℓ} (n : ℕ) (f : ℕ → A) → length (listOf n f) ≡ n
 unfolding listOf
@@ -21,6 +24,20 @@ pub listOf-cons {ℓ} : {A : Type ℓ} (n : ℕ) (f : ℕ → A) → listOf (suc
 unfolding listOf
 listOf-cons zero f = refl
 listOf-cons (suc n) f = ap (λ xs. xs ++ (f (suc n) ∷ [])) (listOf-cons n f)
+
+pub listOf-more {ℓ} : {A : Type ℓ} (n : ℕ) (f : ℕ → A) → listOf (n + 1) f ≡ listOf n f ++ (f n ∷ [])
+unfolding listOf
+listOf-more n f = rw (add-one n)
+
+pub listOf-same {ℓ} : {A : Type ℓ} (n : ℕ) (f g : ℕ → A) → ((k : ℕ) → k < n → f k ≡ g k) → listOf n f ≡ listOf n g
+unfolding listOf
+listOf-same zero f g h = refl
+listOf-same (suc n) f g h = ap₂ (λ l x. l ++ (x ∷ [])) (listOf-same n f g (λ k l. h k (omega arith))) (h n (omega arith))
+
+pub map-listOf {ℓ ℓ'} : {A : Type ℓ} {B : Type ℓ'} (f : A → B) (n : ℕ) (g : ℕ → A) → map f (listOf n g) ≡ listOf n (λ k. f (g k))
+unfolding listOf
+map-listOf f zero g = refl
+map-listOf f (suc n) g = map-append f (listOf n g) (g n ∷ []) ∙ ap (λ l. l ++ (f (g n) ∷ [])) (map-listOf f n g)
 
 pub all-listOf {ℓ} : {A : Type ℓ} (P : A → Type 0) (n : ℕ) (f : ℕ → A) → ((k : ℕ) → k < n → P (f k)) → All P (listOf n f)
 all-listOf P zero f h = unfold listOf in tt
@@ -41,13 +58,8 @@ unfolding joined listOf
 joined-listOf e f n = joined-append e (listOf n f) (f n ∷ []) ∙ ap (λ (l : List ℕ). joined e (listOf n f) ++ l) (append-nil (e (f n)))
 
 module _ {ℓ} {A : Type ℓ} where
-  all-at : (P : A → Type 0) (xs : List A) (d : A) → All P xs → (i : ℕ) → i < length xs → P (getD xs i d)
-  all-at P [] d all i l = absurd (not-suc-le-zero l)
-  all-at P (x ∷ xs) d all zero l = all .0
-  all-at P (x ∷ xs) d all (suc i) l = all-at P xs d (all .1) i (le-of-suc-le-suc l)
-
   pub listOf-all : (P : A → Type 0) (n : ℕ) (f : ℕ → A) → All P (listOf n f) → (i : ℕ) → i < n → P (f i)
-  listOf-all P n f all i l = subst P (get-listOf n f (f i) i l) (all-at P (listOf n f) (f i) all i (rw listOf-length l))
+  listOf-all P n f all i l = subst P (get-listOf n f (f i) i l) (all-in P (listOf n f) all (at-in (listOf n f) i (f i) (rw listOf-length l)))
 
   pub listOf-next : (R : A → A → Type 0) (n : ℕ) (f : ℕ → A) (d : A)
       → ((i : ℕ) → suc i < length (listOf n f) → R (getD (listOf n f) i d) (getD (listOf n f) (suc i) d)) → (i : ℕ) → suc i < n → R (f i) (f (suc i))

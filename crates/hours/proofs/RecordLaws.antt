@@ -1,6 +1,5 @@
 -- Hours records are accepted exactly when the hours that they spell are admitted.
 --     recordAt-is, pairsBefore-up, pairs-in     where a record begins by the pairs before it; that sum rises; it counts the pairs of the hours spelled
---     all-at                                    the converse of all-listOf
 --     pairs-well, pairs-each                    admitted pairs by index, both ways
 --     pair-fine, pair-clear                     a pair that is not refused, both ways
 --     hours-well, hours-clear                   a record that is not refused, both ways
@@ -18,7 +17,7 @@ use Rattle.ground.specs.Judgement.{refuse, _orElse_, inTurn}
 use Rattle.ground.specs.Sequence.{listOf, All}
 use Rattle.ground.proofs.BoolLaws.{or-no}
 use Rattle.ground.proofs.JudgementLaws.{refuse-no, pos-of, turns-all, turns-clear}
-use Rattle.ground.proofs.SequenceLaws.{listOf-length, listOf-cons, all-listOf}
+use Rattle.ground.proofs.SequenceLaws.{listOf-length, listOf-cons, all-listOf, listOf-all}
 use Rattle.hours.specs.Hours.{Pair, Hours}
 use Rattle.hours.specs.HoursBytes.{pairAt, pairsAt, hoursAt, recordAt, pairsBefore, hoursFrom}
 use Rattle.hours.specs.HoursRefusals.{earliest, pairJudged, hoursJudged, recordJudged}
@@ -53,12 +52,6 @@ module _ (s : List ℕ) (from : ℕ) where
   pairs-in (suc n) =
       pairsIn-more (hoursFrom s from n) (hoursAt s (recordAt s from n))
       ∙ rw (listOf-length (pairsAt s (recordAt s from n)) (pairAt s (recordAt s from n + 10)), pairs-in n)
-
--- what holds of all elements of a list by index holds of each
-pub all-at {ℓ} : {A : Type ℓ} (P : A → Type 0) (n : ℕ) (f : ℕ → A) → All P (listOf n f) → (k : ℕ) → k < n → P (f k)
-all-at P zero f a k l = absurd (not-suc-le-zero l)
-all-at P (suc n) f a zero l = (rw listOf-cons at a) .0
-all-at P (suc n) f a (suc k) l = all-at P n (λ k. f (suc k)) ((rw listOf-cons at a) .1) k (le-of-suc-le-suc l)
 
 -- a pair that may start at `low`, for a cycle of c minutes
 pub record PairFine (c low : ℕ) (p : Pair) : Type 0 where
@@ -124,7 +117,7 @@ module _ (s : List ℕ) (c : ℕ) where
     unfolding hoursFrom
     records-iff = (
       (λ a. (all-listOf (HoursWell c) n _ (λ k l. hours-well _ _ (record-fine s from c n a k l)), rw (pairs-in s from) (few n a))),
-      (λ w. turns-clear _ _ (λ k l. clear k l (all-at (HoursWell c) n _ (w .0) k l) (rw (pairs-in s from) at (w .1)))),
+      (λ w. turns-clear _ _ (λ k l. clear k l (listOf-all (HoursWell c) n _ (w .0) k l) (rw (pairs-in s from) at (w .1)))),
     )
       where
         few : (n : ℕ) → inTurn (recordJudged s c from) n ≡ 0 → pairsBefore s from n ≤ 256

@@ -9,7 +9,7 @@ use lib.ListN.{length, take, length-append}
 use lib.Seq.{sets, length-sets}
 use Rattle.ground.specs.Sequence.{joined}
 use Rattle.ground.proofs.SequenceLaws.{joined-append}
-use Rattle.endian.proofs.WrittenLaws.{sets-append}
+use Rattle.endian.proofs.WrittenLaws.{sets-comm, sets-append}
 use Rattle.endian.proofs.StandsLaws.{joined-length}
 use Rattle.rota.specs.RotaBytes.{rolesOf, rotaOf}
 use Rattle.table.specs.Table.{Entry, Row}
@@ -22,7 +22,7 @@ use Rattle.derive.specs.Derive.{entriesTo}
 use Rattle.derive.specs.declared.Count.{Count}
 use Rattle.grid.specs.Grid.{Cuts, Divided, Laid}
 use Rattle.rewriting.specs.Parts.{RoleDerived, roleRows}
-use Rattle.rewriting.proofs.WriteLaws.{entry-long, row-long, sets-comm}
+use Rattle.rewriting.proofs.WriteLaws.{entry-long, row-long}
 use Rattle.rewriting.proofs.CountLaws.{all-entries, all-rows}
 
 -- the arrays have the rota's fields

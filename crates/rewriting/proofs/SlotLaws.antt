@@ -12,6 +12,7 @@ use lib.Seq.{ext-getD, getD-set-same, getD-set-other}
 use borrow.Author.Tests.{eq-eqb, ne-eqb, eqb-true, eqb-false}
 use Rattle.ground.specs.Search.{any}
 use Rattle.ground.specs.Sequence.{listOf}
+use Rattle.ground.proofs.BoolLaws.{eqb-sym}
 use Rattle.ground.proofs.SearchLaws.{any-append}
 use Rattle.ground.proofs.SequenceLaws.{listOf-length, get-listOf}
 use Rattle.bitset.specs.Sets.{has, setOf, insert}
@@ -27,13 +28,6 @@ use Rattle.rewriting.specs.Parts.{RowsFit}
 any-snoc : (f : Row → Bool) (rows : List Row) (w : Row) → any f (rows ++ (w ∷ [])) ≡ (any f rows || f w)
 unfolding any
 any-snoc f rows w = any-append f rows (w ∷ []) ∙ ap (λ (b : Bool). any f rows || b) (or-false (f w))
-
-eqb-swap : (x y : ℕ) → eqb x y ≡ eqb y x
-eqb-swap x y = go (eqb x y) refl
-  where
-    go : (b : Bool) → eqb x y ≡ b → b ≡ eqb y x
-    go true e = sym (eq-eqb y x (sym (eqb-true x y e)))
-    go false e = sym (ne-eqb y x (λ q. eqb-false x y e (sym q)))
 
 pub by-slot-long : (rows : List Row) (r : ℕ) → length (bySlot rows r) ≡ 33
 unfolding bySlot
@@ -69,7 +63,7 @@ module _ (rows : List Row) (w : Row) (r : ℕ) where
       (λ x. any (λ (v : Row). eqb (v .number) x && eqb (v .role) r && eqb (slotOf (v .hours)) (slotOf (w .hours))) (rows ++ (w ∷ [])))
       (λ x l.
       ap₂ _||_ (has-below 64 (λ y. any (λ (v : Row). eqb (v .number) y && eqb (v .role) r && eqb (slotOf (v .hours)) (slotOf (w .hours))) rows) x l)
-      (eqb-swap x (w .number) ∙ sym (rw (eq-eqb (w .role) r e, eq-eqb (slotOf (w .hours)) (slotOf (w .hours)) refl) (and-true (eqb (w .number) x && true) ∙ and-true (eqb (w .number) x))))
+      (eqb-sym x (w .number) ∙ sym (rw (eq-eqb (w .role) r e, eq-eqb (slotOf (w .hours)) (slotOf (w .hours)) refl) (and-true (eqb (w .number) x && true) ∙ and-true (eqb (w .number) x))))
       ∙ sym (any-snoc (λ (v : Row). eqb (v .number) x && eqb (v .role) r && eqb (slotOf (v .hours)) (slotOf (w .hours))) rows w))
 
   row-out : (w .role ≡ r → ⊥) → bySlot rows r ≡ bySlot (rows ++ (w ∷ [])) r

@@ -1,11 +1,11 @@
 -- A loop that writes items one after the other: what is left, written from where the loop stands, is the whole.
 -- Assumes nothing.
-use Prim.Native.Nat.{ℕ, suc, _+_, _*_, _≤_, _<_}
+use Prim.Native.Nat.{ℕ, _+_, _*_, _≤_}
 use mathlib.Core.Path.{_≡_, refl, sym, _∙_, ap, ap₂}
 use mathlib.Core.List.{List, [], _∷_, _++_, append-nil}
 use native.Mathlib.Omega.{arith}
-use lib.ListN.{length, length-append, set, drop}
-use lib.Seq.{sets, length-sets, set-comm, sets-eq}
+use lib.ListN.{length, length-append, drop}
+use lib.Seq.{sets, length-sets, sets-eq}
 use Rattle.ground.specs.Sequence.{joined}
 use Rattle.ground.proofs.SequenceLaws.{joined-append}
 use Rattle.endian.specs.Numbers.{bytes16, bytes32, bytes64}
@@ -70,18 +70,6 @@ module _ {A : Type 0} {e : A → List ℕ} {z : ℕ} where
         let n : length left ≡ length first + length rest = ap length q ∙ length-append first rest in
         let m : z * length left ≡ z * length first + z * length rest = ap (λ (k : ℕ). z * k) n ∙ omega arith in
         omega (arith, w .place, w .long)
-
--- ---- two runs of stores apart
-
-set-sets : (l : List ℕ) (i a j : ℕ) (ws : List ℕ) → i < j → set (sets l j ws) i a ≡ sets (set l i a) j ws
-set-sets l i a j [] h = refl
-set-sets l i a j (w ∷ ws) h =
-    set-sets (set l j w) i a (suc j) ws (omega arith) ∙ ap (λ (z : List ℕ). sets z (suc j) ws) (set-comm l j i w a (λ e. omega arith))
-
-pub sets-comm : (l : List ℕ) (i j : ℕ) (vs ws : List ℕ) → i + length vs ≤ j → sets (sets l j ws) i vs ≡ sets (sets l i vs) j ws
-sets-comm l i j [] ws h = refl
-sets-comm l i j (v ∷ vs) ws h =
-    ap (λ (z : List ℕ). sets z (suc i) vs) (set-sets l i v j ws (omega arith)) ∙ sets-comm (set l i v) (suc i) j vs ws (omega arith)
 
 -- header, entries and rows, from the start on
 pub three-runs : (l H E R : List ℕ) (p : ℕ) → length H ≡ 16 → p ≡ 16 + length E → 16 + length E + length R ≤ length l

@@ -11,10 +11,10 @@ use borrow.Author.Tests.{eq-eqb, ne-eqb, le-ltb, lt-leb}
 use lib.ListN.{length}
 use Rattle.ground.specs.Judgement.{refuse, _orElse_}
 use Rattle.ground.proofs.JudgementLaws.{turns-clear}
-use Rattle.ground.proofs.SequenceLaws.{listOf-length, all-listOf}
+use Rattle.ground.proofs.SequenceLaws.{listOf-length, all-listOf, listOf-all}
 use Rattle.endian.specs.Numbers.{u16At}
 use Rattle.hours.specs.HoursBytes.{hoursFrom}
-use Rattle.hours.proofs.RecordLaws.{all-at, records-iff}
+use Rattle.hours.proofs.RecordLaws.{records-iff}
 use Rattle.rota.specs.RotaBytes.{headerLength, cycleOf, hoursOf, usersOf, permissionsOf, rolesOf, userRowsOf, permissionRowsOf, userRowsAt, permissionRowsAt, endsAt, rotaOf}
 use Rattle.rota.specs.RotaRefusals.{countsOver, headerJudged, roleJudged, rowBad, rowJudged, rotaJudged}
 use Rattle.rota.specs.RotaWell.{RotaWell}
@@ -86,9 +86,9 @@ module _ (s : List ℕ) where
             };
         records = records-iff s (cycleOf s) headerLength (hoursOf s) (omega (arith, d .ended)) .1 (w .hours, w .pairs-most);
         ended = d .ended;
-        roles = all-at _ _ _ (rw hours-count at (w .roles));
-        user-rows = all-at _ _ _ (rw (hours-count, roles-count) at (w .user-rows));
-        permission-rows = all-at _ _ _ (rw (hours-count, roles-count) at (w .permission-rows));
+        roles = listOf-all _ _ _ (rw hours-count at (w .roles));
+        user-rows = listOf-all _ _ _ (rw (hours-count, roles-count) at (w .user-rows));
+        permission-rows = listOf-all _ _ _ (rw (hours-count, roles-count) at (w .permission-rows));
       }
 
   header-clear : HeaderFine s → headerJudged s ≡ 0

@@ -3,12 +3,11 @@
 --     after-trans             one after another
 --     after-apart             two windows of one source role, one after the other, cover no minute both
 -- Assumes nothing.
-use Rattle.ground.proofs.SearchLaws.{or-true}
 use Rattle.ground.proofs.BoolLaws.{or-yes, and-yes}
 use Prim.Native.Nat.{ℕ, _+_, _%_, _≤_, _<_}
 use mathlib.Core.Path.{_≡_}
 use mathlib.Core.Logic.{_⊎_, inl, inr, ⊎-elim}
-use mathlib.Core.Bool.{true}
+use mathlib.Core.Bool.{true, or-true}
 use native.Mathlib.Omega.{arith}
 use borrow.Author.Tests.{ltb-true, leb-true, eqb-true, lt-ltb, le-leb, eq-eqb}
 use Rattle.minutes.specs.Minutes.{Window, covers, inPhase}
