@@ -24,8 +24,8 @@ use Rattle.derivation.specs.Cuts.{Gap, gaps}
 use Rattle.derivation.specs.Rewriting.{eraCuts, cellCuts, fieldOf, fieldsOf, fields}
 use Rattle.derivation.specs.Masks.{minuteOf}
 use Rattle.derivation.specs.Untimed.{countOf}
-use Rattle.derivation.proofs.ValueLaws.{era-values, cell-values}
-use Rattle.derivation.proofs.CutLaws.{Inside, ordered, high-in, find, unique, once}
+use Rattle.derivation.proofs.TableFields.{FieldWell, fields-well}
+use Rattle.derivation.proofs.CutLaws.{Inside, ordered, find, unique, once}
 use Rattle.derivation.proofs.DistinctLaws.{Distinct, distinct-append, distinct-map}
 use Rattle.derivation.proofs.CountingLaws.{count-exactly}
 use Rattle.derivation.proofs.FirstLaws.{first-ge, first-left, first-right, first-le}
@@ -124,9 +124,6 @@ module _ (ρ : Rota) (w : RotaWell ρ) where
     end-is : f .end ≡ era .high
     left-is : f .offset ≡ cell .low
     right-is : f .offset + f .length ≡ cell .high
-    era-ends : era .high ≤ E
-    cell-wide : cell .low < cell .high
-    cell-ends : cell .high ≤ ρ .cycle
 
   parts : (f : Window) → List·Memᴰ f (fields ρ) → Parts f
   unfolding fields eraCuts cellCuts
@@ -145,20 +142,20 @@ module _ (ρ : Rota) (w : RotaWell ρ) where
         end-is = ap (λ (z : Window). z .end) (sym (r .is));
         left-is = sym p₁;
         right-is = omega arith;
-        era-ends = all-in (λ x. x ≤ E) _ (era-values ρ w) (high-in _ (r .era) (r .era-in));
-        cell-wide = o;
-        cell-ends = all-in (λ x. x ≤ ρ .cycle) _ (cell-values ρ w) (high-in _ (r .cell) (r .cell-in));
       }
 
   module _ {f : Window} (m : List·Memᴰ f (fields ρ)) where
+    well : FieldWell (ρ .cycle) f
+    well = all-in (FieldWell (ρ .cycle)) (fields ρ) (fields-well ρ w) m
+
     pub ends : f .end ≤ E
-    ends = let q : Parts f = parts f m in omega arith
+    ends = well .ends
 
     pub wide : f .offset < f .offset + f .length
-    wide = let q : Parts f = parts f m in omega arith
+    wide = omega (arith, well .some-length)
 
     pub fits : f .offset + f .length ≤ ρ .cycle
-    fits = let q : Parts f = parts f m in omega arith
+    fits = well .in-cycle
 
     in-era : {t : ℕ} → In (ρ .cycle) f t → Inside (parts f m .era) t
     in-era h = let q : Parts f = parts f m in (omega arith, omega arith)

@@ -4,7 +4,7 @@
 --     entriesFrom, rowsFrom          of n roles from one on
 --     entries-by-role, rows-by-role  they are the table's
 --     entries-next, rows-next        one role more; entries-none, rows-none where no role is left
---     entriesAt-derived, entriesAt-length, rowsAt-length    what holds of one role's derived roles, and how many there are and how many rows
+--     entriesAt-derived              what holds of one role's derived roles
 -- Assumes nothing.
 use Rattle.ground.proofs.ListLaws.{all-append, all-map, all-with, all-both, map-same}
 use Prim.Native.Nat.{ℕ, zero, suc, _+_, _-_, _≤_, _<_}
@@ -13,14 +13,14 @@ use mathlib.Core.Bool.{true, false}
 use mathlib.Core.List.{List, [], _++_, map, map-append, append-nil, append-assoc}
 use native.Mathlib.Numerals.{add-one}
 use native.Mathlib.Omega.{arith}
-use lib.ListN.{length, length-append, length-map}
+use lib.ListN.{length, length-append}
 use Rattle.ground.specs.Sequence.{All}
 use Rattle.rota.specs.Rota.{Rota}
 use Rattle.table.specs.Table.{Entry, Row}
 use Rattle.derivation.specs.Distinct.{addAll, placeOf}
 use Rattle.derivation.specs.Rewriting.{fields, Kept, keptOf, keptFrom, kept, same, entriesOf, rowOf, rewrite}
 use Rattle.derivation.proofs.TableDistinct.{there, addAll-append, addAll-skip, place-more, place-skip}
-use Rattle.derivation.proofs.TableKept.{entry, other-source, entries-there, entries-all, entries-length, DerivedOf, keptOf-entries, keptFrom-source}
+use Rattle.derivation.proofs.TableKept.{entry, other-source, entries-there, entries-all, DerivedOf, keptOf-entries, keptFrom-source}
 
 -- the derived roles of role r
 unfoldable pub entriesAt : Rota → ℕ → List Entry
@@ -128,12 +128,3 @@ module _ (ρ : Rota) where
   pub rows-none : (roles r base : ℕ) → roles ≤ r → rowsFrom ρ (roles - r) r base ≡ []
   unfolding rowsFrom
   rows-none roles r base h = let e : roles - r ≡ 0 = omega arith in rw e
-
-  -- how many rows a role has does not depend on where its derived roles are counted from
-  pub rowsAt-length : (r base : ℕ) → length (rowsAt ρ r base) ≡ length (keptOf ρ r (fields ρ))
-  unfolding rowsAt
-  rowsAt-length r base = length-map (keptOf ρ r (fields ρ)) (rowAt base (entriesAt ρ r))
-
-  pub entriesAt-length : (r : ℕ) → length (entriesAt ρ r) ≤ length (keptOf ρ r (fields ρ))
-  unfolding entriesAt
-  entriesAt-length r = entries-length (keptOf ρ r (fields ρ))

@@ -100,9 +100,6 @@ unfolding bySlot atSlot listOf any setOf
 slots-none f r = refl
 
 module _ (f : ℕ → Row) (i r : ℕ) (sets : List ℕ) (is : sets ≡ bySlot (listOf i f) r) where
-  pub slots-long : length sets ≡ 33
-  slots-long = ap length is ∙ by-slot-long (listOf i f) r
-
   pub slots-in : (k v : ℕ) (sets′ : List ℕ) → f i .role ≡ r → k ≡ slotOf (f i .hours) → k < 33 → v ≡ insert (getD sets k 0) (f i .number) → sets′ ≡ set sets k v
       → sets′ ≡ bySlot (listOf (i + 1) f) r
   unfolding listOf
