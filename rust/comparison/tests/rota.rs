@@ -1,10 +1,8 @@
 //! Rotas: read, asked, and asked who holds anything; well formed and damaged.
 
-use cases::case::{Case, Tally, cases, tallied};
+use cases::case::{Case, Tally, tallied};
 use cases::{data, generate};
-use comparison::compare::asked::{
-    self, compare_all, compare_holders, compare_question, compare_read,
-};
+use comparison::compare::asked::{self, compare_all, compare_read};
 use comparison::compare::rota;
 use comparison::ffi;
 use reference::END;
@@ -19,26 +17,7 @@ fn small() -> Rota {
 
 #[test]
 fn worked_minutes() {
-    let bytes = small().encode();
-    let ask = |user, t| {
-        let answered = ffi::rota::question(&bytes, user, 0, t);
-        assert_eq!(answered.refusal, 0);
-        (answered.yes == 1).then_some(answered.role)
-    };
-    assert_eq!(ask(0, 3), Some(0));
-    assert_eq!(ask(0, 4), None);
-    assert_eq!([ask(0, 12), ask(1, 12)], [Some(0); 2]);
-    assert_eq!(ask(1, 36), Some(0));
-    assert_eq!([ask(0, 37), ask(1, 37), ask(0, 40), ask(1, 40)], [None; 4]);
-    assert_eq!([3, 4, 12, 36].map(|t| ffi::rota::holders(&bytes, t).users), [1, 0, 3, 2]);
-    let refusal = |user, permission, t| ffi::rota::question(&bytes, user, permission, t).refusal;
-    assert_eq!(refusal(1, 0, END - 1), 0);
-    assert_eq!(refusal(256, 256, END), 33);
-    assert_eq!(refusal(256, 256, 0), 34);
-    assert_eq!(refusal(2, 0, 0), 34);
-    assert_eq!(refusal(0, 256, 0), 35);
-    assert_eq!(refusal(0, 1, 0), 35);
-    assert_eq!(ffi::rota::holders(&bytes, END).refusal, 33);
+    asked::worked_minutes::<Rota>();
 }
 
 /// The limits, each passed and then gone over, with the number that is due.
@@ -160,89 +139,28 @@ fn well_formed_rotas() {
         .also(&["yes", "no"]);
 }
 
-/// Every user, permission and minute of a stretch, and the set of holders.
 #[test]
 fn small_rotas_minute_by_minute() {
-    let mut tally = Tally::new("small_rotas_minute_by_minute");
-    cases("small_rotas_minute_by_minute", 150, |case| {
-        let rota = generate::small_rota(&mut case.random);
-        let lent = Lent::new(rota.encode());
-        for t in (0..50).chain(END - 10..END + 1) {
-            compare_holders(case, &mut tally, &lent, t);
-            for user in 0..=u32::from(rota.users) {
-                for permission in 0..=u32::from(rota.permissions) {
-                    compare_question(case, &mut tally, &lent, user, permission, t);
-                }
-            }
-        }
-    });
-    tally.reached([0, 33, 34, 35]);
+    tallied("small_rotas_minute_by_minute", 150, asked::minute_by_minute::<Rota>)
+        .reached([0, 33, 34, 35]);
 }
 
-/// Numbers at and over every limit, with minutes at and over theirs.
 #[test]
 fn questions_at_and_over_their_limits() {
-    let mut tally = Tally::new("questions_at_and_over_their_limits");
-    cases("questions_at_and_over_their_limits", 300, |case| {
-        let rota = match case.random.below(3) {
-            0 => generate::small_rota(&mut case.random),
-            _ => generate::rota(&mut case.random),
-        };
-        let lent = Lent::new(rota.encode());
-        let numbers = |limit: u8| {
-            let limit = u32::from(limit);
-            let below = limit.saturating_sub(1);
-            [0, below, limit, limit + 1, 63, 64, 65, 255, 256, 256 + below, 1 << 16, u32::MAX]
-        };
-        let t = generate::rota_minute(&mut case.random, &rota);
-        for user in numbers(rota.users) {
-            for permission in numbers(rota.permissions) {
-                compare_question(case, &mut tally, &lent, user, permission, t);
-            }
-            for t in [0, END - 1, END, END + 1, 1 << 31, u32::MAX] {
-                let permission = generate::number(&mut case.random, rota.permissions.into());
-                compare_question(case, &mut tally, &lent, user, permission, t);
-                compare_holders(case, &mut tally, &lent, t);
-            }
-        }
-    });
-    tally.reached([0, 33, 34, 35]);
+    tallied("questions_at_and_over_their_limits", 300, asked::at_and_over_limits::<Rota>)
+        .reached([0, 33, 34, 35]);
 }
 
 #[test]
 fn every_length() {
-    let mut tally = Tally::new("every_length");
-    cases("every_length", 300, |case| {
-        let rota = generate::small_rota(&mut case.random);
-        let mut bytes = rota.encode();
-        let whole = bytes.len();
-        let extra = case.random.bytes(6);
-        bytes.extend(extra);
-        for len in 0..=bytes.len() {
-            let lent = Lent::new(bytes[..len].to_vec());
-            assert_eq!(lent.parsed.is_ok(), len == whole);
-            compare_all(case, &mut tally, &lent, &rota, 1);
-        }
-    });
-    tally.reached([0, 1, 5, 9]);
+    let compare = |case: &mut Case, tally: &mut Tally| asked::every_length::<Rota>(case, tally, 6);
+    tallied("every_length", 300, compare).reached([0, 1, 5, 9]);
 }
 
 #[test]
 fn every_byte_changed() {
-    let mut tally = Tally::new("every_byte_changed");
-    cases("every_byte_changed", 150, |case| {
-        // The small rota itself comes first.
-        let rota = if case.number == 0 { small() } else { generate::small_rota(&mut case.random) };
-        let whole = rota.encode();
-        for i in 0..whole.len() {
-            for value in generate::changes(whole[i]) {
-                let mut bytes = whole.clone();
-                bytes[i] = value;
-                compare_all(case, &mut tally, &Lent::new(bytes), &rota, 1);
-            }
-        }
-    });
-    tally.reached((0..=0).chain(2..=12));
+    tallied("every_byte_changed", 150, asked::every_byte_changed::<Rota>)
+        .reached((0..=0).chain(2..=12));
 }
 
 #[test]

@@ -1,10 +1,8 @@
 //! Tables: read, asked, and asked who holds anything; rewritten, made by hand and damaged.
 
-use cases::case::{Case, Tally, cases, tallied};
+use cases::case::{Case, Tally, tallied};
 use cases::{data, generate};
-use comparison::compare::asked::{
-    self, compare_all, compare_holders, compare_question, compare_read,
-};
+use comparison::compare::asked::{self, compare_read};
 use comparison::compare::table;
 use comparison::{expected, ffi};
 use reference::END;
@@ -20,26 +18,7 @@ fn small() -> Table {
 
 #[test]
 fn worked_minutes() {
-    let bytes = small().encode();
-    let ask = |user, t| {
-        let answered = ffi::table::question(&bytes, user, 0, t);
-        assert_eq!(answered.refusal, 0);
-        (answered.yes == 1).then_some(answered.role)
-    };
-    assert_eq!(ask(0, 3), Some(0));
-    assert_eq!(ask(0, 4), None);
-    assert_eq!([ask(0, 12), ask(1, 12)], [Some(0); 2]);
-    assert_eq!(ask(1, 36), Some(0));
-    assert_eq!([ask(0, 37), ask(1, 37), ask(0, 40), ask(1, 40)], [None; 4]);
-    assert_eq!([3, 4, 12, 36].map(|t| ffi::table::holders(&bytes, t).users), [1, 0, 3, 2]);
-    let refusal = |user, permission, t| ffi::table::question(&bytes, user, permission, t).refusal;
-    assert_eq!(refusal(1, 0, END - 1), 0);
-    assert_eq!(refusal(256, 256, END), 33);
-    assert_eq!(refusal(256, 256, 0), 34);
-    assert_eq!(refusal(2, 0, 0), 34);
-    assert_eq!(refusal(0, 256, 0), 35);
-    assert_eq!(refusal(0, 1, 0), 35);
-    assert_eq!(ffi::table::holders(&bytes, END).refusal, 33);
+    asked::worked_minutes::<Table>();
 }
 
 /// Each rule kept at its limit and then broken, with the number that is due.
@@ -173,90 +152,29 @@ fn largest_rewritten_tables() {
     tally.reached([0]);
 }
 
-/// Every user, permission and minute of a stretch, and the set of holders.
 #[test]
 fn small_tables_minute_by_minute() {
-    let mut tally = Tally::new("small_tables_minute_by_minute");
-    cases("small_tables_minute_by_minute", 150, |case| {
-        let table = generate::small_table(&mut case.random);
-        let lent = Lent::new(table.encode());
-        for t in (0..50).chain(END - 10..END + 1) {
-            compare_holders(case, &mut tally, &lent, t);
-            for user in 0..=u32::from(table.users) {
-                for permission in 0..=u32::from(table.permissions) {
-                    compare_question(case, &mut tally, &lent, user, permission, t);
-                }
-            }
-        }
-    });
-    tally.reached([0, 33, 34, 35]);
+    tallied("small_tables_minute_by_minute", 150, asked::minute_by_minute::<Table>)
+        .reached([0, 33, 34, 35]);
 }
 
-/// Numbers at and over every limit, with minutes at and over theirs.
 #[test]
 fn questions_at_and_over_their_limits() {
-    let mut tally = Tally::new("questions_at_and_over_their_limits");
-    cases("questions_at_and_over_their_limits", 300, |case| {
-        let table = match case.random.below(3) {
-            0 => generate::small_table(&mut case.random),
-            _ => generate::table(&mut case.random),
-        };
-        let lent = Lent::new(table.encode());
-        let numbers = |limit: u8| {
-            let limit = u32::from(limit);
-            let below = limit.saturating_sub(1);
-            [0, below, limit, limit + 1, 63, 64, 65, 255, 256, 256 + below, 1 << 16, u32::MAX]
-        };
-        let t = generate::table_minute(&mut case.random, &table);
-        for user in numbers(table.users) {
-            for permission in numbers(table.permissions) {
-                compare_question(case, &mut tally, &lent, user, permission, t);
-            }
-            for t in [0, END - 1, END, END + 1, 1 << 31, u32::MAX] {
-                let permission = generate::number(&mut case.random, table.permissions.into());
-                compare_question(case, &mut tally, &lent, user, permission, t);
-                compare_holders(case, &mut tally, &lent, t);
-            }
-        }
-    });
-    tally.reached([0, 33, 34, 35]);
+    tallied("questions_at_and_over_their_limits", 300, asked::at_and_over_limits::<Table>)
+        .reached([0, 33, 34, 35]);
 }
 
 #[test]
 fn every_length() {
-    let mut tally = Tally::new("every_length");
-    cases("every_length", 150, |case| {
-        let table = generate::small_table(&mut case.random);
-        let mut bytes = table.encode();
-        let whole = bytes.len();
-        let extra = case.random.bytes(20);
-        bytes.extend(extra);
-        for len in 0..=bytes.len() {
-            let lent = Lent::new(bytes[..len].to_vec());
-            assert_eq!(lent.parsed.is_ok(), len == whole);
-            compare_all(case, &mut tally, &lent, &table, 1);
-        }
-    });
-    tally.reached([0, 21, 25]);
+    let compare =
+        |case: &mut Case, tally: &mut Tally| asked::every_length::<Table>(case, tally, 20);
+    tallied("every_length", 150, compare).reached([0, 21, 25]);
 }
 
 #[test]
 fn every_byte_changed() {
-    let mut tally = Tally::new("every_byte_changed");
-    cases("every_byte_changed", 50, |case| {
-        // The small rota's table comes first.
-        let table =
-            if case.number == 0 { small() } else { generate::small_table(&mut case.random) };
-        let whole = table.encode();
-        for i in 0..whole.len() {
-            for value in generate::changes(whole[i]) {
-                let mut bytes = whole.clone();
-                bytes[i] = value;
-                compare_all(case, &mut tally, &Lent::new(bytes), &table, 1);
-            }
-        }
-    });
-    tally.reached((0..=0).chain(22..=28));
+    tallied("every_byte_changed", 50, asked::every_byte_changed::<Table>)
+        .reached((0..=0).chain(22..=28));
 }
 
 #[test]

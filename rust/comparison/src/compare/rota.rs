@@ -1,8 +1,8 @@
 //! Rotas: well formed and damaged.
 
 use cases::case::{Case, Tally};
-use cases::generate;
 use cases::random::Random;
+use cases::{data, generate};
 use reference::Refusal;
 use reference::rota::Rota;
 
@@ -15,6 +15,22 @@ impl Kind for Rota {
 
     fn parse(bytes: &[u8]) -> Result<Rota, Refusal> {
         Rota::parse(bytes)
+    }
+
+    fn encode(&self) -> Vec<u8> {
+        Rota::encode(self)
+    }
+
+    fn stored() -> Rota {
+        Rota::parse(&data::small_rota()).expect("well formed")
+    }
+
+    fn small(random: &mut Random) -> Rota {
+        generate::small_rota(random)
+    }
+
+    fn any(random: &mut Random) -> Rota {
+        generate::rota(random)
     }
 
     fn minute(&self, random: &mut Random) -> u32 {

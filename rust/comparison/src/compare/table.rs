@@ -1,8 +1,8 @@
 //! Tables: rewritten, made by hand and damaged.
 
 use cases::case::{Case, Tally};
-use cases::generate;
 use cases::random::Random;
+use cases::{data, generate};
 use reference::table::Table;
 use reference::{Refusal, rewriting};
 
@@ -17,6 +17,22 @@ impl Kind for Table {
 
     fn parse(bytes: &[u8]) -> Result<Table, Refusal> {
         Table::parse(bytes)
+    }
+
+    fn encode(&self) -> Vec<u8> {
+        Table::encode(self)
+    }
+
+    fn stored() -> Table {
+        Table::parse(&data::small_table()).expect("well formed")
+    }
+
+    fn small(random: &mut Random) -> Table {
+        generate::small_table(random)
+    }
+
+    fn any(random: &mut Random) -> Table {
+        generate::table(random)
     }
 
     fn minute(&self, random: &mut Random) -> u32 {

@@ -86,11 +86,23 @@ mod lent {
         fn softlode_rota_advance(service: *mut Service, s: *const u8, len: usize, m: u32) -> Told;
         fn softlode_rota_open(service: *mut Service, s: *const u8, len: usize, u: u32) -> Told;
         fn softlode_rota_close(service: *mut Service, s: *const u8, len: usize, u: u32) -> Told;
-        fn softlode_rota_ask(service: *mut Service, s: *const u8, len: usize, u: u32, p: u32) -> Told;
+        fn softlode_rota_ask(
+            service: *mut Service,
+            s: *const u8,
+            len: usize,
+            u: u32,
+            p: u32,
+        ) -> Told;
         fn softlode_table_advance(service: *mut Service, s: *const u8, len: usize, m: u32) -> Told;
         fn softlode_table_open(service: *mut Service, s: *const u8, len: usize, u: u32) -> Told;
         fn softlode_table_close(service: *mut Service, s: *const u8, len: usize, u: u32) -> Told;
-        fn softlode_table_ask(service: *mut Service, s: *const u8, len: usize, u: u32, p: u32) -> Told;
+        fn softlode_table_ask(
+            service: *mut Service,
+            s: *const u8,
+            len: usize,
+            u: u32,
+            p: u32,
+        ) -> Told;
     }
 
     /// Lends the middle one of three records, and checks that its neighbours stay.
@@ -124,7 +136,9 @@ mod lent {
                 Call::Advance(m) => softlode_table_advance(service, s, len, m),
                 Call::Open(user) => softlode_table_open(service, s, len, user),
                 Call::Close(user) => softlode_table_close(service, s, len, user),
-                Call::Ask(user, permission) => softlode_table_ask(service, s, len, user, permission),
+                Call::Ask(user, permission) => {
+                    softlode_table_ask(service, s, len, user, permission)
+                }
             }
         })
     }
