@@ -178,7 +178,8 @@ fn mark_field(
     d + 1
 }
 
-// The marks of the first n masks, and the sets that they are the places of. It stops once it has more than `limit` rows.
+// The marks of the first n masks, and the sets that they are the places of. It stops once it has more than `limit` rows. `links` is scratch for the
+// index of the sets.
 pub fn derive(
     role: Role,
     masks: &[u64],
