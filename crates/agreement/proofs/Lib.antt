@@ -1,3 +1,4 @@
 pub mod MachineLaws
 pub mod Agreement
+pub mod Pinned
 pub mod Worked

@@ -16,7 +16,7 @@ use Rattle.minutes.specs.Minutes.{E, within, inPhase}
 use Rattle.hours.specs.Hours.{Pair, Hours, holds, never, refHolds}
 use Rattle.hours.specs.declared.HoursRef.{HoursRef}
 use Rattle.hours.specs.declared.HoursRef.the-variants.{Always, Numbered}
-use Rattle.rota.specs.Rota.{Row, Rota, refOn, enabled, assigned, hasUser, hasPermission}
+use Rattle.rota.specs.Rota.{Row, Rota, refOn, roleHours, enabled, assigned, hasUser, hasPermission}
 use Rattle.derivation.specs.Cuts.{Gap, gaps}
 use Rattle.derivation.specs.Rewriting.{hoursCuts, pairCuts, pairsCuts, eraCuts, cellCuts, usersAt, permissionsAt, derivedAt, active}
 use Rattle.derivation.proofs.CutLaws.{Inside, Blind, blind}
@@ -74,7 +74,7 @@ module _ (ρ : Rota) where
 module _ (ρ : Rota) (s t : ℕ) (same : Alike ρ s t) where
   pub alike-enabled : (r : ℕ) → enabled ρ r s ≡ enabled ρ r t
   unfolding enabled
-  alike-enabled r = same (getD (ρ .roles) r Always)
+  alike-enabled r = same (roleHours ρ r)
 
   alike-assigned : (rows : List Row) (x r : ℕ) → assigned ρ rows x r s ≡ assigned ρ rows x r t
   unfolding assigned

@@ -3,14 +3,20 @@
 --     count-one      where at most one passes, any two that do are equal
 --     count-exactly  of a list without repeats just one passes
 --     pigeon         elements that are matched with others, one to one, are no more than those
+--     count-single   of elements by index, of which no two pass, at most one does
+--     count-like     elements by index that pass as those of a list do are as many
 -- Assumes nothing.
-use Prim.Native.Nat.{ℕ, suc, _≤_, zero-le}
+use Prim.Native.Nat.{ℕ, zero, suc, _≤_, _<_, zero-le}
 use mathlib.Core.Path.{_≡_, refl, sym, ap, _∙_, subst}
 use mathlib.Core.Logic.{_⊎_, inl, inr, ⊎-elim}
 use mathlib.Core.Bool.{Bool, true, false}
 use mathlib.Core.List.{List, [], _∷_, List·Memᴰ, List·Memᴰ·head, List·Memᴰ·tail, List·Memᴰ·cases-cons, List·Memᴰ·not-nil, Memᴰ·cast}
 use native.Mathlib.Omega.{arith}
+use lib.ListN.{length, getD}
 use Rattle.ground.specs.Choice.{pick}
+use Rattle.ground.specs.Sequence.{listOf}
+use Rattle.ground.proofs.BoolLaws.{not-yes}
+use Rattle.ground.proofs.SequenceLaws.{listOf-cons}
 use Rattle.derivation.specs.Untimed.{countOf}
 use Rattle.derivation.proofs.DistinctLaws.{Distinct}
 
@@ -85,3 +91,34 @@ count-exactly f l d x m h alone =
     = pigeon f (λ z. true) (λ y z. y ≡ z) (λ a b c p q. p ∙ sym q) l d (x ∷ [])
     (λ y n k. record { partner = x; there = List·Memᴰ·head refl; passes = refl; matched = alone y n k }) in
     omega (arith, some-one .fewer)
+
+-- elements by index
+module _ {A : Type 0} (f : A → Bool) where
+  count-none : (n : ℕ) (g : ℕ → A) → ((i : ℕ) → i < n → f (g i) ≡ false) → countOf f (listOf n g) ≡ 0
+  unfolding countOf listOf
+  count-none zero g h = refl
+  count-none (suc n) g h =
+      rw (listOf-cons n g) (rw (h 0 (omega arith)) (count-none n (λ k. g (suc k)) (λ i l. h (suc i) (omega arith))))
+
+  pub count-single : (n : ℕ) (g : ℕ → A) → ((i j : ℕ) → i < n → j < n → f (g i) ≡ true → f (g j) ≡ true → i ≡ j) → countOf f (listOf n g) ≤ 1
+  unfolding countOf listOf
+  count-single zero g h = zero-le
+  count-single (suc n) g h =
+      rw (listOf-cons n g)
+      (go (f (g 0)) refl (count-single n (λ k. g (suc k)) (λ i j a b p q. let e : suc i ≡ suc j = h (suc i) (suc j) (omega arith) (omega arith) p q in omega (arith, e))))
+    where
+      go : (b : Bool) → f (g 0) ≡ b → countOf f (listOf n (λ k. g (suc k))) ≤ 1
+          → pick b (suc (countOf f (listOf n (λ k. g (suc k))))) (countOf f (listOf n (λ k. g (suc k)))) ≤ 1
+      go true e rest =
+          let z : countOf f (listOf n (λ k. g (suc k))) ≡ 0
+          = count-none n (λ k. g (suc k)) (λ i l. not-yes _ (λ q. let k : 0 ≡ suc i = h 0 (suc i) (omega arith) (omega arith) e q in absurd (omega (arith, k)))) in
+          omega (arith, z)
+      go false e rest = rest
+
+  pub count-like : {B : Type 0} (f′ : B → Bool) (d : B) (xs : List B) (g : ℕ → A) → ((i : ℕ) → i < length xs → f (g i) ≡ f′ (getD xs i d))
+      → countOf f (listOf (length xs) g) ≡ countOf f′ xs
+  unfolding countOf listOf
+  count-like f′ d [] g h = refl
+  count-like f′ d (x ∷ xs) g h =
+      rw (listOf-cons (length xs) g)
+      (rw (h 0 (omega arith)) (ap (λ (n : ℕ). pick (f′ x) (suc n) n) (count-like f′ d xs (λ k. g (suc k)) (λ i l. h (suc i) (omega arith)))))

@@ -18,7 +18,7 @@ use Rattle.minutes.specs.Minutes.{E, Window}
 use Rattle.hours.specs.Hours.{holds, never, refHolds, dangling}
 use Rattle.hours.specs.declared.HoursRef.{HoursRef}
 use Rattle.hours.specs.declared.HoursRef.the-variants.{Always, Numbered}
-use Rattle.rota.specs.Rota.{Row, Rota, refOn, enabled, assigned, hasUser, hasPermission}
+use Rattle.rota.specs.Rota.{Row, Rota, refOn, roleHours, enabled, assigned, hasUser, hasPermission}
 use Rattle.rota.specs.RotaWell.{RowWell, RotaWell}
 use Rattle.derivation.specs.Rewriting.{fields, usersAt, permissionsAt, active, keptAs}
 use Rattle.derivation.specs.Masks.{minuteOf, maskOf, slotOf, assignedIn, usersIn, permissionsIn, keptIn}
@@ -28,7 +28,7 @@ use Rattle.derivation.proofs.KeptLaws.{keptBy, kept-closed}
 -- no role has anything where nothing holds
 nothing-in : (ρ : Rota) (r : ℕ) → keptIn ρ r 0 ≡ none
 unfolding keptIn
-nothing-in ρ r = rw (has-none (slotOf (getD (ρ .roles) r Always)))
+nothing-in ρ r = rw (has-none (slotOf (roleHours ρ r)))
 
 -- the hours that hold at t, and always
 abbrev held : Rota → ℕ → ℕ
@@ -57,9 +57,9 @@ module _ (ρ : Rota) (w : RotaWell ρ) (t : ℕ) (early : t < E) where
   unfolding permissionsIn permissionsAt hasPermission
   permissions-in r = setOf-same (ρ .permissions) _ _ (λ p l. rows-in _ _ (ρ .permission-rows) (w .permission-rows) p r)
 
-  on-in : (r : ℕ) → r < length (ρ .roles) → has (held ρ t) (slotOf (getD (ρ .roles) r Always)) ≡ enabled ρ r t
+  on-in : (r : ℕ) → r < length (ρ .roles) → has (held ρ t) (slotOf (roleHours ρ r)) ≡ enabled ρ r t
   unfolding enabled
-  on-in r l = slot-has _ (all-in _ (ρ .roles) (w .roles) (at-in (ρ .roles) r Always l))
+  on-in r l = slot-has _ (all-in _ (ρ .roles) (w .roles) (at-in (ρ .roles) r _ l))
 
   held-kept : (r : ℕ) (f : Window) → r < length (ρ .roles) → keptBy ρ r f t ≡ keptIn ρ r (held ρ t)
   unfolding keptIn active

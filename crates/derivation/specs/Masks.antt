@@ -13,7 +13,7 @@ use Rattle.minutes.specs.Minutes.{Window}
 use Rattle.hours.specs.Hours.{holds, never}
 use Rattle.hours.specs.declared.HoursRef.{HoursRef}
 use Rattle.hours.specs.declared.HoursRef.the-variants.{Always, Numbered}
-use Rattle.rota.specs.Rota.{Row, Rota}
+use Rattle.rota.specs.Rota.{Row, Rota, roleHours}
 use Rattle.table.specs.Table.{Entry}
 
 -- from a on, the first minute whose remainder by c lies from o to before e
@@ -48,5 +48,5 @@ permissionsIn ρ r m = setOf (ρ .permissions) (λ p. assignedIn m (ρ .permissi
 -- what a field with this mask gives for role r
 unfoldable pub keptIn : Rota → ℕ → ℕ → Option Entry
 keptIn ρ r m =
-    pick (has m (slotOf (getD (ρ .roles) r Always)) && not (eqb (usersIn ρ r m) 0) && not (eqb (permissionsIn ρ r m) 0))
+    pick (has m (slotOf (roleHours ρ r)) && not (eqb (usersIn ρ r m) 0) && not (eqb (permissionsIn ρ r m) 0))
     (some (record { source = r; users = usersIn ρ r m; permissions = permissionsIn ρ r m })) none

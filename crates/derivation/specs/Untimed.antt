@@ -4,11 +4,14 @@ use mathlib.Core.Path.{_≡_}
 use mathlib.Core.Bool.{Bool, _&&_}
 use mathlib.Core.List.{List, [], _∷_}
 use lib.Dec.{eqb}
+use lib.ListN.{length}
 use Rattle.ground.specs.Choice.{pick}
 use Rattle.ground.specs.Search.{any}
+use Rattle.ground.specs.Sequence.{listOf}
+use Rattle.bitset.specs.Sets.{has}
 use Rattle.minutes.specs.Minutes.{E}
 use Rattle.rota.specs.Rota.{Rota}
-use Rattle.table.specs.Table.{through}
+use Rattle.table.specs.Table.{Table, entryAt, enabled, through}
 use Rattle.derivation.specs.Rewriting.{rewrite}
 
 -- a derived role whose two sets never change, with any choice of the minutes at which it is enabled
@@ -36,3 +39,11 @@ countOf f (x ∷ xs) = pick (f x) (suc (countOf f xs)) (countOf f xs)
 pub record Rival (ρ : Rota) (r : ℕ) (os : List Untimed) : Type 0 where
   pub same-pairs : (t u p : ℕ) → t < E → u < ρ .users → p < ρ .permissions → grants os r t u p ≡ through (rewrite ρ) u p t r
   pub one-at-a-time : (t : ℕ) → t < E → countOf (onFor r t) os ≤ 1
+
+-- a table as such a list: its own derived roles, each on when one of its rows enables it
+abbrev pub untimedAt : Table → ℕ → Untimed
+untimedAt τ i =
+    record { source = entryAt τ i .source; user = has (entryAt τ i .users); permission = has (entryAt τ i .permissions); on = enabled τ i }
+
+abbrev pub untimedOf : Table → List Untimed
+untimedOf τ = listOf (length (τ .entries)) (untimedAt τ)

@@ -25,7 +25,7 @@ use Rattle.bitset.proofs.SetLaws.{has-none, has-union, has-setOf, setOf-lt, ext
 use Rattle.hours.specs.Hours.{dangling}
 use Rattle.hours.specs.declared.HoursRef.{HoursRef}
 use Rattle.hours.specs.declared.HoursRef.the-variants.{Always, Numbered}
-use Rattle.rota.specs.Rota.{Row, Rota}
+use Rattle.rota.specs.Rota.{Row, Rota, roleHours}
 use Rattle.rota.specs.RotaWell.{RefWell, RowWell, RotaWell}
 use Rattle.derivation.specs.Masks.{slotOf, assignedIn, usersIn, permissionsIn, keptIn}
 use Rattle.derive.specs.Role.{unionOf, setsMade, setsIn, keptWith, keptBy, atSlot, bySlot, roleOf}
@@ -151,10 +151,10 @@ pub kept-by : (ρ : Rota) → RotaWell ρ → (r m : ℕ) → keptBy (roleOf ρ 
 unfolding keptBy roleOf setsIn keptIn usersIn permissionsIn
 kept-by ρ w r m =
     let h = w .hours-most in
-    ap₂ (λ (u p : ℕ). keptWith r (pick (has m (slotOf (getD (ρ .roles) r Always))) (setsMade u p) (setsMade 0 0)))
+    ap₂ (λ (u p : ℕ). keptWith r (pick (has m (slotOf (roleHours ρ r))) (setsMade u p) (setsMade 0 0)))
     (union-rows m (ρ .users) (ρ .user-rows) r (w .users-most) (numbers-small _ _ _ (ρ .user-rows) (w .user-rows)) (slots-small _ _ _ (ρ .user-rows) h (w .user-rows)))
     (union-rows m (ρ .permissions) (ρ .permission-rows) r (w .permissions-most) (numbers-small _ _ _ (ρ .permission-rows) (w .permission-rows)) (slots-small _ _ _ (ρ .permission-rows) h (w .permission-rows)))
-    ∙ go (has m (slotOf (getD (ρ .roles) r Always))) (usersIn ρ r m) (permissionsIn ρ r m)
+    ∙ go (has m (slotOf (roleHours ρ r))) (usersIn ρ r m) (permissionsIn ρ r m)
   where
     go : (b : Bool) (u p : ℕ) → keptWith r (pick b (setsMade u p) (setsMade 0 0))
         ≡ pick (b && not (eqb u 0) && not (eqb p 0)) (some (record { source = r; users = u; permissions = p })) none

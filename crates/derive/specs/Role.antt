@@ -9,7 +9,6 @@ use Rattle.ground.specs.Choice.{pick}
 use Rattle.ground.specs.Search.{any}
 use Rattle.ground.specs.Sequence.{listOf}
 use Rattle.bitset.specs.Sets.{has, setOf, union}
-use Rattle.hours.specs.declared.HoursRef.the-variants.{Always}
 use Rattle.rota.specs.Rota as rota
 use Rattle.table.specs.Table.{Entry}
 use Rattle.derivation.specs.Masks.{slotOf}
@@ -58,7 +57,7 @@ unfoldable pub roleOf : rota.Rota → ℕ → Role
 roleOf ρ r =
     record {
       source = r;
-      on = slotOf (getD (ρ .roles) r Always);
+      on = slotOf (rota.roleHours ρ r);
       users = bySlot (ρ .user-rows) r;
       permissions = bySlot (ρ .permission-rows) r;
     }

@@ -9,7 +9,7 @@ use Rattle.ground.specs.Sequence.{listOf}
 use Rattle.ground.proofs.SequenceLaws.{get-listOf}
 use Rattle.hours.specs.Hours.{refOf}
 use Rattle.hours.specs.declared.HoursRef.{HoursRef}
-use Rattle.hours.specs.declared.HoursRef.the-variants.{Always}
+use Rattle.hours.specs.declared.HoursRef.the-variants.{Numbered}
 use Rattle.endian.specs.Numbers.{u8At}
 use Rattle.rota.specs.RotaBytes.{cycleOf, hoursOf, usersOf, permissionsOf, rolesOf, userRowsOf, permissionRowsOf, userRowsAt, permissionRowsAt, roleRef, rowAt, rotaOf}
 use Rattle.rota.specs.declared.Layout.{Layout}
@@ -48,13 +48,13 @@ module _ (s : List ℕ) (l : Layout) (w : Located s l) where
       let o : on ≡ slotOf (roleRef s r) = eo ∙ ap slotOf (er ∙ ap (λ (k : ℕ). refOf (u8At s (k + r))) (roles-at s l w)) in
       let u : us ≡ bySlot (listOf (userRowsOf s) (rowAt s (userRowsAt s))) r = rw (user-rows-at s l w, counted s l w .user-rows) at eu in
       let p : ps ≡ bySlot (listOf (permissionRowsOf s) (rowAt s (permissionRowsAt s))) r = rw (permission-rows-at s l w, counted s l w .permission-rows) at ep in
-      let g = get-listOf (rolesOf s) (roleRef s) Always r h in
+      let g = get-listOf (rolesOf s) (roleRef s) (Numbered (length (rotaOf s .hours))) r h in
       rw (g) (λ i. record { source = r; on = o i; users = u i; permissions = p i })
 
   pub role-on : (r : ℕ) (x : Role) → r < rolesOf s → x ≡ roleOf (rotaOf s) r → x .on < 33
   unfolding roleOf rotaOf
   role-on r x h e =
-      let o : x .on ≡ slotOf (roleRef s r) = ap (λ (y : Role). y .on) e ∙ ap slotOf (get-listOf (rolesOf s) (roleRef s) Always r h) in
+      let o : x .on ≡ slotOf (roleRef s r) = ap (λ (y : Role). y .on) e ∙ ap slotOf (get-listOf (rolesOf s) (roleRef s) (Numbered (length (rotaOf s .hours))) r h) in
       omega (arith, slot-small (hoursOf s) (roleRef s r) (fine s l w .header .hours-most) (fine s l w .roles r h))
 
   pub roles-are : (l .counts .roles ≡ rolesOf s) × (rolesOf s ≤ 32)

@@ -9,6 +9,7 @@ use mathlib.Core.List.{List}
 use native.Mathlib.Omega.{arith}
 use borrow.Author.Tests.{eqb-true, eq-eqb}
 use lib.Dec.{eqb}
+use lib.ListN.{length}
 use Rattle.ground.specs.Sequence.{listOf}
 use Rattle.ground.specs.Search.{anyBelow, lowestBelow}
 use Rattle.ground.proofs.BoolLaws.{eq-ext, and-swap, and-yes, and-both, and-three, and-all}
@@ -19,7 +20,7 @@ use Rattle.bitset.proofs.SetLaws.{intersection-setOf, setOf-same, has-below}
 use Rattle.minutes.specs.Minutes.{E}
 use Rattle.hours.specs.Answers.{holding, refIn}
 use Rattle.hours.specs.declared.HoursRef.{HoursRef}
-use Rattle.hours.specs.declared.HoursRef.the-variants.{Always}
+use Rattle.hours.specs.declared.HoursRef.the-variants.{Numbered}
 use Rattle.hours.proofs.RefLaws.{ref-in}
 use Rattle.policy.specs.Policy.{isYes, holdsAny, holdersAt}
 use Rattle.policy.proofs.PolicyLaws.{yes-is}
@@ -46,7 +47,7 @@ module _ (s : List ℕ) (t set : ℕ) (acc : rotaJudged s ≡ 0) (early : t < E)
   unfolding enabled rotaOf
   on-is r l =
       ref-in s _ _ _ t set (roleRef s r) early es (fine .roles r l)
-      ∙ ap (λ (q : HoursRef). refHoldsOf q) (sym (get-listOf (rolesOf s) (roleRef s) Always r l))
+      ∙ ap (λ (q : HoursRef). refHoldsOf q) (sym (get-listOf (rolesOf s) (roleRef s) (Numbered (length (rotaOf s .hours))) r l))
     where
       refHoldsOf : HoursRef → Bool
       refHoldsOf q = Rattle.rota.specs.Rota.refOn (rotaOf s) q t

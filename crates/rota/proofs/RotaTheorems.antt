@@ -4,19 +4,26 @@
 --     read-back         reading what spells such a rota gives it back
 --     unique            two such rotas with the same bytes are one
 --     yes-iff, no-iff   when the answer is yes, through which role, and when it is no
+--     past-never        a role past the last is never enabled
 -- Assumes nothing.
 use mathlib.Core.Path.{_≡_, refl, sym, _∙_, ap}
-use Prim.Native.Nat.{ℕ, _<_}
-use mathlib.Core.Bool.{true, false}
+use Prim.Native.Nat.{ℕ, _<_, _≤_}
+use mathlib.Core.Bool.{Bool, true, false, _&&_}
 use mathlib.Core.Option.{none, some}
 use native.Mathlib.Nat.{lt-trans}
-use lib.ListN.{length}
+use native.Mathlib.Omega.{arith}
+use lib.Dec.{leb, ltb}
+use lib.ListN.{length, getD, List·getD-eq-default}
+use Rattle.ground.specs.Search.{any}
 use Rattle.ground.proofs.BoolLaws.{and-three, and-all, eq-ext, clash}
 use Rattle.ground.proofs.SearchLaws.{lowest-is, lowest-none, lowest-out, lowest-no}
 use mathlib.Core.Logic.{_↔_}
 use mathlib.Core.List.{List}
 use Rattle.endian.specs.Numbers.{Bytes}
-use Rattle.rota.specs.Rota.{Rota, enabled, hasUser, hasPermission, through, answer}
+use Rattle.hours.specs.Hours.{holds, refHolds, never}
+use Rattle.hours.specs.declared.HoursRef.{HoursRef}
+use Rattle.hours.specs.declared.HoursRef.the-variants.{Numbered}
+use Rattle.rota.specs.Rota.{Rota, refOn, roleHours, enabled, hasUser, hasPermission, through, answer}
 use Rattle.rota.specs.RotaBytes.{rotaBytes, rotaOf}
 use Rattle.rota.specs.RotaRefusals.{rotaJudged}
 use Rattle.rota.specs.RotaWell.{RotaWell}
@@ -40,6 +47,21 @@ module _ (ρ : Rota) (u p t r : ℕ) where
   through-out l h =
       let a = and-three (enabled ρ r t) (hasUser ρ u r t) (hasPermission ρ p r t) h in
       record { below = l; on = a .0; user = a .1; permission = a .2 }
+
+-- no record has its number, and hours that are not there hold at no minute
+pub past-never : (ρ : Rota) (r t : ℕ) → length (ρ .roles) ≤ r → enabled ρ r t ≡ false
+unfolding enabled refHolds holds
+past-never ρ r t l =
+    ap (λ (h : HoursRef). refOn ρ h t) (List·getD-eq-default (ρ .roles) (Numbered (length (ρ .hours))) l)
+    ∙ ap (λ h. holds (ρ .cycle) h t) (List·getD-eq-default (ρ .hours) never (omega arith)) ∙ none-hold t
+  where
+    neither : (a b : Bool) → (a && b && false) ≡ false
+    neither true true = refl
+    neither true false = refl
+    neither false b = refl
+
+    none-hold : (t : ℕ) → holds (ρ .cycle) never t ≡ false
+    none-hold t = unfold holds any in neither (leb 0 t) (ltb t 0)
 
 -- the rota that accepted bytes spell keeps the layout
 pub accepted-well : (s : List ℕ) → rotaJudged s ≡ 0 → RotaWell (rotaOf s)

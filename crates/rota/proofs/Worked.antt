@@ -35,10 +35,10 @@ pub small-accepted : (length small ≡ 54) × (rotaJudged small ≡ 0)
 unfolding opened
 small-accepted = (refl, refl)
 
--- minute 3, user 0 yes role 0; 4 no; 12, both yes; 36, user 1 yes; 37 and 40 no, for both
+-- minute 3, user 0 yes role 0; 4 no, for both; 12, both yes; 36, user 1 yes; 37 and 40 no, for both
 pub record WorkedMinutes : Type 0 where
   pub at-3 : answer (rotaOf small) 0 0 3 ≡ some 0
-  pub at-4 : answer (rotaOf small) 0 0 4 ≡ none
+  pub at-4 : (answer (rotaOf small) 0 0 4 ≡ none) × (answer (rotaOf small) 1 0 4 ≡ none)
   pub at-12 : answer (rotaOf small) 0 0 12 ≡ some 0
   pub at-12-too : answer (rotaOf small) 1 0 12 ≡ some 0
   pub at-36 : answer (rotaOf small) 1 0 36 ≡ some 0
@@ -48,7 +48,7 @@ pub record WorkedMinutes : Type 0 where
 pub worked-minutes : WorkedMinutes
 unfolding opened
 worked-minutes =
-    record { at-3 = refl; at-4 = refl; at-12 = refl; at-12-too = refl; at-36 = refl; at-37 = (refl, refl); at-40 = (refl, refl) }
+    record { at-3 = refl; at-4 = (refl, refl); at-12 = refl; at-12-too = refl; at-36 = refl; at-37 = (refl, refl); at-40 = (refl, refl) }
 
 -- C 0 and 40,321 give 3; a pair that touches the one before gives 8; a byte less gives 9
 pub worked-limits : (rotaJudged (set small 2 0) ≡ 3) × (rotaJudged (set (set small 2 129) 3 157) ≡ 3) × (rotaJudged (set small 26 4) ≡ 8) × (rotaJudged (take 53 small) ≡ 9)

@@ -10,7 +10,7 @@ use lib.ListN.{length, getD}
 use Rattle.ground.specs.Search.{any, lowestBelow}
 use Rattle.hours.specs.Hours.{Hours, refHolds}
 use Rattle.hours.specs.declared.HoursRef.{HoursRef}
-use Rattle.hours.specs.declared.HoursRef.the-variants.{Always}
+use Rattle.hours.specs.declared.HoursRef.the-variants.{Numbered}
 use Rattle.policy.specs.Policy.{Policy}
 
 -- an assignment: the number of a user or of a permission, the role, and the hours in which it holds
@@ -33,9 +33,13 @@ pub record Rota : Type 0 where
 abbrev pub refOn : Rota → HoursRef → ℕ → Bool
 refOn ρ h t = refHolds (ρ .cycle) (ρ .hours) h t
 
+-- the hours in which role r is enabled; for a role past the last, a reference past the last record, whose hours never hold
+abbrev pub roleHours : Rota → ℕ → HoursRef
+roleHours ρ r = getD (ρ .roles) r (Numbered (length (ρ .hours)))
+
 -- role r is enabled at t
 unfoldable pub enabled : Rota → ℕ → ℕ → Bool
-enabled ρ r t = refOn ρ (getD (ρ .roles) r Always) t
+enabled ρ r t = refOn ρ (roleHours ρ r) t
 
 -- some row of number x and role r has hours that hold at t: rows of one number and role give their union
 unfoldable pub assigned : Rota → List Row → ℕ → ℕ → ℕ → Bool
