@@ -1,4 +1,5 @@
--- Minutes (document 01, "Minutes") and the window that hours records and table rows share ("Hours", "The table's bytes").
+-- Minutes (document 01, "Minutes"), and when a window of dates and of the cycle covers one: a row's ("The table's bytes"), and by its two tests an
+-- hours record's ("Hours").
 use Prim.Native.Nat.{ℕ, _+_, _%_}
 use mathlib.Core.Bool.{Bool, _&&_}
 use lib.Dec.{leb, ltb}

@@ -1,4 +1,4 @@
-// The minutes of the archive's calendar, and the window that hours records and table rows share.
+// The minutes of the archive's calendar, and the tests of a window of dates and of the cycle.
 ghost use mathlib.Core.Path.{_≡_};
 ghost use Prim.Native.Nat.{_<_, _%_, _+_};
 ghost use Rattle.minutes.specs.Minutes.{within};
