@@ -15,7 +15,8 @@
  *   of no bytes: refusal 20, unless the rota is refused. A null pointer with another length, and a null service record, are errors of the
  *   caller that no library can see.
  * - Lent memory must not overlap: the bytes, the output area and the service record are three different pieces of memory, and nobody else
- *   writes them during the call. Bytes that are only read may be shared by any number of calls at the same time.
+ *   writes them during the call; where they do, the outcome is undefined. Bytes that are only read may be shared by any number of calls at
+ *   the same time.
  * - Calls on different records (and on different output areas) may run at the same time, on any threads. There is no global state. Calls on
  *   one record come one after the other, asks too: an ask leaves the record's values, but may store them again.
  * - Stack: softlode_rewrite takes less than 1 MiB, whatever the rota; every other call less than 4 KiB.

@@ -35,6 +35,13 @@ pub not-yes : (b : Bool) → (b ≡ true → ⊥) → b ≡ false
 not-yes true h = absurd (h refl)
 not-yes false h = refl
 
+-- the second of two does not count, or alone does
+pub or-left : (a b : Bool) → a ≡ true → (a || b) ≡ true
+or-left a b e = rw e refl
+
+pub or-skip : (a b : Bool) → a ≡ false → (a || b) ≡ b
+or-skip a b e = rw e refl
+
 pub or-no : (a b : Bool) → (a || b) ≡ false → (a ≡ false) × (b ≡ false)
 or-no true b h = (h, (cc))
 or-no false b h = (refl, h)

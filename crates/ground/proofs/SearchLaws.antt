@@ -1,17 +1,19 @@
 -- Laws of bounded search, one for each way that a searching loop can go, and what a search that ended says.
 --     any-none, any-more, any-stop    the loop over `anyBelow`
 --     any-turn, any-same              one turn, whatever the test says; tests that agree below the bound
+--     any-found, any-kept             the loop that does not stop
+--     any-split, any-blocks           a search in two parts, and block by block
 --     any-out, any-no, any-none-of    a number that passes; none does
 --     list-any                        some element of a list given by index
 --     lowest-is, lowest-none, lowest-some, lowest-out, lowest-no    the lowest number that passes, and where there is none
 -- Assumes nothing.
-use Prim.Native.Nat.{ℕ, zero, suc, _+_, _<_}
+use Prim.Native.Nat.{ℕ, zero, suc, _+_, _*_, _<_}
 use mathlib.Core.Path.{_≡_, refl, sym, ap, ap₂, _∙_}
 use mathlib.Core.Logic.{⊎-elim}
 use mathlib.Core.Bool.{Bool, true, false, _||_, or-true, or-false, or-assoc}
 use mathlib.Core.Option.{Option, none, some}
 use mathlib.Core.List.{List, [], _∷_, _++_}
-use native.Mathlib.Nat.{not-suc-le-zero, le-of-suc-le-suc, eq-or-lt-of-le, le-refl, lt-trans}
+use native.Mathlib.Nat.{add-zero, add-suc, mul-zero, mul-suc, not-suc-le-zero, le-of-suc-le-suc, eq-or-lt-of-le, le-refl, lt-trans}
 use native.Mathlib.Numerals.{add-one}
 use native.Mathlib.Omega.{arith}
 use Rattle.ground.specs.Choice.{pick}
@@ -42,10 +44,28 @@ module _ (f : ℕ → Bool) where
   unfolding anyBelow
   any-turn i = rw (add-one i)
 
+  -- a loop that gathers without stopping: found at i, or nothing new there
+  pub any-found : (i : ℕ) (b : Bool) → b ≡ true → f i ≡ true → b ≡ anyBelow (i + 1) f
+  any-found i b e h = e ∙ sym (any-stop (i + 1) i (omega arith) h)
+
+  pub any-kept : (i : ℕ) (a b : Bool) → a ≡ anyBelow i f → b ≡ a → f i ≡ false → b ≡ anyBelow (i + 1) f
+  any-kept i a b e k h = k ∙ e ∙ sym (any-turn i ∙ ap (λ (c : Bool). anyBelow i f || c) h ∙ or-false (anyBelow i f))
+
 pub any-same : (n : ℕ) (f g : ℕ → Bool) → ((i : ℕ) → i < n → f i ≡ g i) → anyBelow n f ≡ anyBelow n g
 unfolding anyBelow
 any-same zero f g h = refl
 any-same (suc n) f g h = ap₂ _||_ (any-same n f g (λ i l. h i (lt-trans l (le-refl (suc n))))) (h n (le-refl (suc n)))
+
+pub any-split : (m n : ℕ) (f : ℕ → Bool) → anyBelow (m + n) f ≡ (anyBelow m f || anyBelow n (λ j. f (m + j)))
+unfolding anyBelow
+any-split m zero f = rw (add-zero m) (sym (or-false (anyBelow m f)))
+any-split m (suc n) f =
+    rw (add-suc m n) (ap (λ (b : Bool). b || f (m + n)) (any-split m n f) ∙ or-assoc (anyBelow m f) (anyBelow n (λ j. f (m + j))) (f (m + n)))
+
+pub any-blocks : (w n : ℕ) (f : ℕ → Bool) → anyBelow (w * n) f ≡ anyBelow n (λ i. anyBelow w (λ j. f (w * i + j)))
+unfolding anyBelow
+any-blocks w zero f = rw (mul-zero w) refl
+any-blocks w (suc n) f = rw (mul-suc w n) (any-split (w * n) w f ∙ ap (λ (b : Bool). b || anyBelow w (λ j. f (w * n + j))) (any-blocks w n f))
 
 pub any-append {ℓ} : {A : Type ℓ} (f : A → Bool) (l m : List A) → any f (l ++ m) ≡ (any f l || any f m)
 unfolding any

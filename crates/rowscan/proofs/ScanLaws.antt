@@ -1,0 +1,103 @@
+-- Rows in blocks of sixteen: byte j of a block lies in its range exactly when it is one of the three of row j / 3 that are out of range, so that some
+-- byte of the block does exactly when some row has one.
+--     blank, filled, laid     a loop that lays a pattern: its start, a turn, its end
+--     rows-split              all rows, as whole blocks and the rows left over
+-- Assumes nothing.
+use Prim.Native.Nat.{ℕ, suc, _+_, _*_, _-_, _≤_, _<_}
+use mathlib.Core.Path.{_≡_, refl, sym, ap, ap₂, _∙_}
+use mathlib.Core.Logic.{⊎-elim}
+use mathlib.Core.Bool.{Bool, true, _&&_, _||_, and-true}
+use mathlib.Core.List.{List}
+use native.Mathlib.Omega.{arith}
+use borrow.Author.Tests.{le-leb}
+use lib.Dec.{leb}
+use lib.ListN.{length, getD, set, length-set}
+use lib.Seq.{getD-set-same, getD-set-other}
+use Rattle.ground.specs.Search.{anyBelow}
+use Rattle.ground.proofs.BoolLaws.{lt-or-le}
+use Rattle.ground.proofs.SearchLaws.{any-same, any-split, any-blocks}
+use Rattle.endian.specs.Numbers.{Bytes, u8At}
+use Rattle.rowscan.specs.Rows.{rowOut, byteOut, Pattern}
+
+-- the first i threes are laid, and every third byte is c
+pub record Filled (a b c i : ℕ) (p : List ℕ) : Type 0 where
+  pub long : length p ≡ 48
+  pub first : (k : ℕ) → k < i → getD p (3 * k) 0 ≡ a
+  pub second : (k : ℕ) → k < i → getD p (3 * k + 1) 0 ≡ b
+  pub third : (k : ℕ) → k < 16 → getD p (3 * k + 2) 0 ≡ c
+
+module _ (a b c i : ℕ) (p : List ℕ) (w : Filled a b c i p) (l : i < 16) where
+  pub filled : Filled a b c (i + 1) (set (set p (3 * i) a) (3 * i + 1) b)
+  filled =
+      record {
+        long = simp (length-set, w .long) refl;
+        first = λ k m. getD-set-other (set p (3 * i) a) (3 * i + 1) (3 * k) b 0 (λ e. omega (arith, e)) ∙ here k m;
+        second = λ k m. there k m;
+        third = λ k m.
+            getD-set-other (set p (3 * i) a) (3 * i + 1) (3 * k + 2) b 0 (λ e. omega (arith, e))
+            ∙ getD-set-other p (3 * i) (3 * k + 2) a 0 (λ e. omega (arith, e)) ∙ w .third k m;
+      }
+    where
+      here : (k : ℕ) → k < i + 1 → getD (set p (3 * i) a) (3 * k) 0 ≡ a
+      here k m =
+          ⊎-elim
+          (λ (q : k < i). getD-set-other p (3 * i) (3 * k) a 0 (λ e. omega (arith, e)) ∙ w .first k q)
+          (λ (q : i ≤ k).
+              let e : 3 * k ≡ 3 * i = omega arith in
+              ap (λ (n : ℕ). getD (set p (3 * i) a) n 0) e ∙ getD-set-same p (3 * i) a 0 (omega (arith, w .long)))
+          (lt-or-le k i)
+
+      there : (k : ℕ) → k < i + 1 → getD (set (set p (3 * i) a) (3 * i + 1) b) (3 * k + 1) 0 ≡ b
+      there k m =
+          ⊎-elim
+          (λ (q : k < i).
+              getD-set-other (set p (3 * i) a) (3 * i + 1) (3 * k + 1) b 0 (λ e. omega (arith, e))
+              ∙ getD-set-other p (3 * i) (3 * k + 1) a 0 (λ e. omega (arith, e)) ∙ w .second k q)
+          (λ (q : i ≤ k).
+              let e : 3 * k + 1 ≡ 3 * i + 1 = omega arith in
+              ap (λ (n : ℕ). getD (set (set p (3 * i) a) (3 * i + 1) b) n 0) e
+              ∙ getD-set-same (set p (3 * i) a) (3 * i + 1) b 0 (simp length-set (omega (arith, w .long))))
+          (lt-or-le k i)
+
+-- at the start, and at the end
+pub blank : (a b c : ℕ) (p : List ℕ) → length p ≡ 48 → ((j : ℕ) → j < 48 → getD p j 0 ≡ c) → Filled a b c 0 p
+blank a b c p l h =
+    record { long = l; first = λ k m. absurd (omega arith); second = λ k m. absurd (omega arith); third = λ k m. h (3 * k + 2) (omega arith) }
+
+pub laid : (a b c i : ℕ) (p : List ℕ) → Filled a b c i p → 16 ≤ i → i ≤ 16 → Pattern a b c 16 p
+laid a b c i p w l m = record { first = λ k q. w .first k (omega arith); second = λ k q. w .second k (omega arith); third = w .third }
+
+module _ (top roles hours : ℕ) (low high : List ℕ) (pl : Pattern top roles hours 16 low) (ph : Pattern 255 255 254 16 high) (s : List ℕ) (bytes : Bytes s) where
+  -- a byte is at most 255
+  low-only : (n x : ℕ) → x < 256 → (leb n x && leb x 255) ≡ leb n x
+  low-only n x m = ap (λ (b : Bool). leb n x && b) (le-leb x 255 (omega arith)) ∙ and-true (leb n x)
+
+  -- byte j, whose range is known
+  byte : (at j n m v : ℕ) → getD low j 0 ≡ n → getD high j 0 ≡ m → at + j ≡ v → byteOut low high s at j ≡ (leb n (u8At s v) && leb (u8At s v) m)
+  unfolding byteOut
+  byte at j n m v el eh ev = rw (el, eh, ev)
+
+  three : (at i : ℕ) → i < 16 → anyBelow 3 (λ j. byteOut low high s at (3 * i + j)) ≡ rowOut top roles hours s (at + 3 * i)
+  unfolding anyBelow rowOut
+  three at i l =
+      let z : 3 * i + 0 ≡ 3 * i = omega arith in
+      ap₂ _||_
+      (ap₂ _||_
+      (byte at (3 * i + 0) top 255 (at + 3 * i) (ap (λ (n : ℕ). getD low n 0) z ∙ pl .first i l) (ap (λ (n : ℕ). getD high n 0) z ∙ ph .first i l) (omega arith)
+      ∙ low-only top (u8At s (at + 3 * i)) (bytes (at + 3 * i)))
+      (byte at (3 * i + 1) roles 255 (at + 3 * i + 1) (pl .second i l) (ph .second i l) (omega arith) ∙ low-only roles (u8At s (at + 3 * i + 1)) (bytes (at + 3 * i + 1))))
+      (byte at (3 * i + 2) hours 254 (at + 3 * i + 2) (pl .third i l) (ph .third i l) (omega arith))
+
+  block : (at : ℕ) → anyBelow 48 (byteOut low high s at) ≡ anyBelow 16 (λ i. rowOut top roles hours s (at + 3 * i))
+  block at = any-blocks 3 16 (byteOut low high s at) ∙ any-same 16 _ _ (λ i l. three at i l)
+
+  pub rows-split : (at n b : ℕ) → 16 * b ≤ n
+      → anyBelow n (λ k. rowOut top roles hours s (at + 3 * k))
+      ≡ (anyBelow b (λ i. anyBelow 48 (byteOut low high s (at + 48 * i))) || anyBelow (n - 16 * b) (λ k. rowOut top roles hours s (at + 3 * (16 * b) + 3 * k)))
+  rows-split at n b l =
+      ap (λ (m : ℕ). anyBelow m (λ k. rowOut top roles hours s (at + 3 * k))) (let e : n ≡ 16 * b + (n - 16 * b) = omega arith in e)
+      ∙ any-split (16 * b) (n - 16 * b) (λ k. rowOut top roles hours s (at + 3 * k))
+      ∙ ap₂ _||_
+      (any-blocks 16 b (λ k. rowOut top roles hours s (at + 3 * k))
+      ∙ any-same b _ _ (λ i m. any-same 16 _ _ (λ j q. ap (rowOut top roles hours s) (let e : at + 3 * (16 * i + j) ≡ at + 48 * i + 3 * j = omega arith in e)) ∙ sym (block (at + 48 * i))))
+      (any-same (n - 16 * b) _ _ (λ j q. ap (rowOut top roles hours s) (let e : at + 3 * (16 * b + j) ≡ at + 3 * (16 * b) + 3 * j = omega arith in e)))

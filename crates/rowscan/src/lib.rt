@@ -1,0 +1,106 @@
+// Rows of three bytes, a number, a role and an hours reference: whether one of many has a byte out of range. Sixteen rows are 48 bytes and are looked at
+// together, each byte against a range of its own and without stopping, so that the compiler can make vector code of it.
+ghost use mathlib.Core.Path.{_≡_};
+ghost use Prim.Native.Nat.{_+_, _*_, _≤_, _<_};
+ghost use mathlib.Core.Bool.{_&&_};
+ghost use lib.Dec.{leb};
+ghost use lib.ListN.{length};
+ghost use Rattle.ground.specs.Search.{anyBelow};
+ghost use Rattle.rowscan.specs.Rows.{rowOut, byteOut, Pattern};
+
+// a, b and c, sixteen times.
+fn pattern(a: u8, b: u8, c: u8) -> [u8; 48]
+    ensures { λ p. ⌜ Pattern a b c 16 p ⌝ }
+{
+    let mut p = [c; 48];
+    let mut i = 0;
+    while i < 16 {
+        p[3 * i] = a;
+        p[3 * i + 1] = b;
+        i += 1;
+    }
+    p
+}
+
+// low ≤ x ≤ high
+fn between(low: u8, high: u8, x: u8) -> bool
+    ensures { λ r. ⌜ r ≡ (leb low x && leb x high) ⌝ }
+{
+    if x < low { false } else { x <= high }
+}
+
+// Whether one of the 48 bytes from `at` on lies in its range.
+fn block_out(s: &[u8], at: usize, low: &[u8; 48], high: &[u8; 48]) -> bool
+    requires { ⌜ at + 48 ≤ length (now s) ⌝ }
+    ensures { λ r. ⌜ r ≡ anyBelow 48 (byteOut (now (low .entry)) (now (high .entry)) (now (s .entry)) at) ⌝ }
+{
+    let mut out = false;
+    let mut j = 0;
+    while j < 48 {
+        if between(low[j], high[j], s[at + j]) {
+            out = true;
+        }
+        j += 1;
+    }
+    out
+}
+
+// The same of n blocks.
+fn blocks_out(s: &[u8], at: usize, n: usize, low: &[u8; 48], high: &[u8; 48]) -> bool
+    requires { ⌜ at + 48 * n ≤ length (now s) ⌝ }
+    ensures { λ r. ⌜ r ≡ anyBelow n (λ i. anyBelow 48 (byteOut (now (low .entry)) (now (high .entry)) (now (s .entry)) (at + 48 * i))) ⌝ }
+{
+    let mut i = 0;
+    while i < n {
+        if block_out(s, at + 48 * i, low, high) {
+            return true;
+        }
+        i += 1;
+    }
+    false
+}
+
+// Whether the row at `at` has a number not below `top`, a role not below `roles`, or an hours reference that is neither below `hours` nor 255.
+fn row_out(s: &[u8], at: usize, top: u8, roles: u8, hours: u8) -> bool
+    requires { ⌜ at + 3 ≤ length (now s) ⌝ }
+    ensures { λ r. ⌜ r ≡ rowOut top roles hours (now (s .entry)) at ⌝ }
+{
+    if top <= s[at] {
+        return true;
+    }
+    if roles <= s[at + 1] {
+        return true;
+    }
+    between(hours, 254, s[at + 2])
+}
+
+// Whether one of the n rows from `at` on is, looked at one by one.
+fn rest_out(s: &[u8], at: usize, n: usize, top: u8, roles: u8, hours: u8) -> bool
+    requires { ⌜ at + 3 * n ≤ length (now s) ⌝ }
+    ensures { λ r. ⌜ r ≡ anyBelow n (λ k. rowOut top roles hours (now (s .entry)) (at + 3 * k)) ⌝ }
+{
+    let mut k = 0;
+    while k < n {
+        if row_out(s, at + 3 * k, top, roles, hours) {
+            return true;
+        }
+        k += 1;
+    }
+    false
+}
+
+// Whether one of the n rows from `at` on has a number not below `top`, a role not below `roles`, or an hours reference that is neither below `hours` nor
+// 255.
+pub fn rows_out(s: &[u8], at: usize, n: usize, top: u8, roles: u8, hours: u8) -> bool
+    requires { ⌜ at + 3 * n ≤ length (now s) ⌝ }
+    ensures { λ r. ⌜ r ≡ anyBelow n (λ k. rowOut top roles hours (now (s .entry)) (at + 3 * k)) ⌝ }
+{
+    let blocks = n / 16;
+    let low = pattern(top, roles, hours);
+    let high = pattern(255, 255, 254);
+    if blocks_out(s, at, blocks, &low, &high) {
+        return true;
+    }
+    let first = 16 * blocks;
+    rest_out(s, at + 3 * first, n - first, top, roles, hours)
+}
