@@ -1,19 +1,21 @@
 -- Laws of judgements, one for each way that a reader's loop can go.
 --     turns-none, turns-more, turns-stop, turns-refused   before the first turn; a turn that refuses nothing; the first that refuses
 --     turns-all, turns-clear               where nothing is refused no turn refuses, and the other way round
+--     turns-any                            turns that share one refusal: it is given where some turn refuses
 --     orElse-ne, orElse-zero               a first judgement that refuses; both judgements where nothing is refused
 --     refuse-yes, refuse-none, refuse-no   a rule whose test holds, or fails; the test of a rule that does not refuse
 -- Assumes nothing.
 use Prim.Native.Nat.{ℕ, zero, suc, _+_, _<_}
-use mathlib.Core.Path.{_≡_, refl, _∙_}
+use mathlib.Core.Path.{_≡_, refl, ap, _∙_}
 use mathlib.Core.Logic.{⊎-elim}
-use mathlib.Core.Bool.{Bool, true, false}
+use mathlib.Core.Bool.{Bool, true, false, _||_}
 use native.Mathlib.Nat.{not-suc-le-zero, le-of-suc-le-suc, eq-or-lt-of-le, le-refl, lt-trans}
 use native.Mathlib.Numerals.{add-one}
 use native.Mathlib.Omega.{arith}
 use lib.Dec.{eqb}
 use borrow.Author.Tests.{eq-eqb, ne-eqb, lt-ltb, le-ltb, le-leb, lt-leb, eqb-false}
 use Rattle.ground.specs.Judgement.{refuse, _orElse_, inTurn}
+use Rattle.ground.specs.Search.{anyBelow}
 
 -- what `search` is handed to settle a test of a judgement from the branch that was taken
 pub ruleset tests = (eq-eqb, ne-eqb, lt-ltb, le-ltb, le-leb, lt-leb)
@@ -80,3 +82,14 @@ module _ (f : ℕ → ℕ) where
   unfolding inTurn _orElse_
   turns-clear zero h = refl
   turns-clear (suc n) h = rw (turns-clear n (λ i l. h i (lt-trans l (le-refl (suc n))))) (h n (le-refl (suc n)))
+
+pub turns-any : (n : ℕ) (f : ℕ → Bool) (m : ℕ) → inTurn (λ k. refuse n (f k)) m ≡ refuse n (anyBelow m f)
+unfolding inTurn anyBelow refuse
+turns-any n f zero = refl
+turns-any n f (suc m) = ap (λ (a : ℕ). a orElse refuse n (f m)) (turns-any n f m) ∙ either n (anyBelow m f) (f m)
+  where
+    either : (n : ℕ) (a b : Bool) → refuse n a orElse refuse n b ≡ refuse n (a || b)
+    either zero true true = unfold refuse _orElse_ in refl
+    either zero true false = unfold refuse _orElse_ in refl
+    either (suc n) true b = unfold refuse _orElse_ in refl
+    either n false b = unfold refuse _orElse_ in refl

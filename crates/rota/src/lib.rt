@@ -13,7 +13,7 @@ ghost use Rattle.minutes.specs.Minutes.{E};
 ghost use Rattle.policy.specs.Policy.{question, answerGiven, holdersAt, holdersQuestion, holdersGiven};
 ghost use Rattle.rota.specs.Rota.{answer, policyOf};
 ghost use Rattle.rota.specs.RotaBytes.{rotaOf, rolesAt, rolesOf, hoursOf, usersOf, rowAtByte};
-ghost use Rattle.rota.specs.RotaRefusals.{countsOver, headerJudged, roleJudged, rowBad, rowJudged, rotaJudged};
+ghost use Rattle.rota.specs.RotaRefusals.{countsOver, headerJudged, roleJudged, rowJudged, rotaJudged};
 ghost use Rattle.rota.specs.Answers.{rotaGiven, readOutcome, layoutGiven, layoutOutcome, countsOf, restJudged, Measured, Located, RowsFine, RolesFine, rolesOfNumber, rolesAssigned, rolesEnabled, usersWith, questionRoles};
 use hours::decode;
 use policy::Answer;
@@ -110,33 +110,16 @@ fn judge_roles(s: &[u8], h: usize, at: usize, n: usize) -> u8
     0
 }
 
-// Whether the row at `at` has a number out of range.
-fn row_refused(s: &[u8], h: usize, roles: usize, top: usize, at: usize) -> bool
-    requires { ⌜ at + 3 ≤ length (now s) ⌝ }
-    ensures { λ r. ⌜ r ≡ rowBad top roles h (rowAtByte (now (s .entry)) at) ⌝ }
-{
-    if top <= endian::read8(s, at) {
-        return true;
-    }
-    if roles <= endian::read8(s, at + 1) {
-        return true;
-    }
-    hours::dangles(decode(s[at + 2]), h)
-}
-
-// The first refusal of the n rows from `at` on, else 0.
+// The first refusal of the n rows from `at` on, else 0. They share one refusal, so it is enough to know whether some row has a number out of range.
 fn judge_rows(refusal: u8, s: &[u8], h: usize, roles: usize, top: usize, at: usize, n: usize) -> u8
-    requires { ⌜ (0 < refusal) × (at + 3 * n ≤ length (now s)) × (h ≡ hoursOf (now s)) × (roles ≡ rolesOf (now s)) ⌝ }
+    requires { ⌜ (at + 3 * n ≤ length (now s)) × (h ≡ hoursOf (now s)) × (roles ≡ rolesOf (now s)) × (h ≤ 32) × (roles ≤ 32) × (top ≤ 64) ⌝ }
     ensures { λ r. ⌜ r ≡ inTurn (rowJudged refusal top (now (s .entry)) at) n ⌝ }
 {
-    let mut k = 0;
-    while k < n {
-        if row_refused(s, h, roles, top, at + 3 * k) {
-            return refusal;
-        }
-        k += 1;
+    if rowscan::rows_out(s, at, n, top as u8, roles as u8, h as u8) {
+        refusal
+    } else {
+        0
     }
-    0
 }
 
 // The first refusal of what follows the hours records, which end at `at`, else 0. The counts are those of the header.

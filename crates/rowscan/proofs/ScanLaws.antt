@@ -43,20 +43,20 @@ module _ (a b c i : ℕ) (p : List ℕ) (w : Filled a b c i p) (l : i < 16) wher
           ⊎-elim
           (λ (q : k < i). getD-set-other p (3 * i) (3 * k) a 0 (λ e. omega (arith, e)) ∙ w .first k q)
           (λ (q : i ≤ k).
-              let e : 3 * k ≡ 3 * i = omega arith in
-              ap (λ (n : ℕ). getD (set p (3 * i) a) n 0) e ∙ getD-set-same p (3 * i) a 0 (omega (arith, w .long)))
+          let e : 3 * k ≡ 3 * i = omega arith in
+          ap (λ (n : ℕ). getD (set p (3 * i) a) n 0) e ∙ getD-set-same p (3 * i) a 0 (omega (arith, w .long)))
           (lt-or-le k i)
 
       there : (k : ℕ) → k < i + 1 → getD (set (set p (3 * i) a) (3 * i + 1) b) (3 * k + 1) 0 ≡ b
       there k m =
           ⊎-elim
           (λ (q : k < i).
-              getD-set-other (set p (3 * i) a) (3 * i + 1) (3 * k + 1) b 0 (λ e. omega (arith, e))
-              ∙ getD-set-other p (3 * i) (3 * k + 1) a 0 (λ e. omega (arith, e)) ∙ w .second k q)
+          getD-set-other (set p (3 * i) a) (3 * i + 1) (3 * k + 1) b 0 (λ e. omega (arith, e))
+          ∙ getD-set-other p (3 * i) (3 * k + 1) a 0 (λ e. omega (arith, e)) ∙ w .second k q)
           (λ (q : i ≤ k).
-              let e : 3 * k + 1 ≡ 3 * i + 1 = omega arith in
-              ap (λ (n : ℕ). getD (set (set p (3 * i) a) (3 * i + 1) b) n 0) e
-              ∙ getD-set-same (set p (3 * i) a) (3 * i + 1) b 0 (simp length-set (omega (arith, w .long))))
+          let e : 3 * k + 1 ≡ 3 * i + 1 = omega arith in
+          ap (λ (n : ℕ). getD (set (set p (3 * i) a) (3 * i + 1) b) n 0) e
+          ∙ getD-set-same (set p (3 * i) a) (3 * i + 1) b 0 (simp length-set (omega (arith, w .long))))
           (lt-or-le k i)
 
 -- at the start, and at the end
