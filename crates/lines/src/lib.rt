@@ -1,8 +1,8 @@
-// The lines of the listing, in bytes of ASCII, made at the start of a lent buffer.
+// The lines of the listing, in bytes of ASCII, put at a place of a lent buffer.
 ghost use mathlib.Core.Path.{_≡_};
 ghost use mathlib.Core.List.{_∷_, [], _++_};
 ghost use Prim.Native.Nat.{_+_, _≤_, _<_};
-ghost use lib.ListN.{length};
+ghost use lib.ListN.{length, length as size};
 ghost use lib.Seq.{sets};
 ghost use Rattle.lines.specs.Lines.{
   digit as digitOf,
@@ -15,10 +15,10 @@ ghost use Rattle.lines.specs.Lines.{
   rowLine,
   refusedLine,
 };
-ghost use Rattle.lines.specs.Written.{Put, Line};
+ghost use Rattle.lines.specs.Written.{Put};
 
-// The longest line is that of a row: 4 bytes, and five numbers of 20 digits with a byte after each.
-pub const LONGEST: usize = 109;
+// No line is longer: that of a role has 5 bytes, two numbers of at most 10 digits and two sets of 16, with a byte after each.
+pub const LONGEST: usize = 61;
 
 // The character of a digit below sixteen.
 fn digit(d: u64) -> u8
@@ -29,8 +29,8 @@ fn digit(d: u64) -> u8
 }
 
 // How many digits n has in decimal.
-fn places(n: u64) -> usize
-    ensures { λ r. ⌜ (r ≡ placesOf n) × (r ≤ 20) ⌝ }
+fn places(n: u32) -> usize
+    ensures { λ r. ⌜ (r ≡ placesOf n) × (r ≤ 10) ⌝ }
 {
     let mut k = 1;
     let mut rest = n;
@@ -56,12 +56,12 @@ fn put_digits(out: &mut [u8], at: usize, base: u64, k: usize, n: u64)
 }
 
 // A number in decimal, and the byte after it: a space or the line's end.
-fn put_number(out: &mut [u8], at: usize, n: u64, end: u8) -> usize
-    requires { ⌜ at + 21 ≤ length (now out) ⌝ }
-    ensures { λ r. ⌜ Put (decimal n ++ (end ∷ [])) (now (out .entry)) at (now (out .exit)) r × (r ≤ at + 21) ⌝ }
+fn put_number(out: &mut [u8], at: usize, n: u32, end: u8) -> usize
+    requires { ⌜ at + 11 ≤ length (now out) ⌝ }
+    ensures { λ r. ⌜ Put (decimal n ++ (end ∷ [])) (now (out .entry)) at (now (out .exit)) r × (r ≤ at + 11) ⌝ }
 {
     let k = places(n);
-    put_digits(out, at, 10, k, n);
+    put_digits(out, at, 10, k, n as u64);
     out[at + k] = end;
     at + k + 1
 }
@@ -77,23 +77,24 @@ fn put_set(out: &mut [u8], at: usize, set: u64, end: u8) -> usize
 }
 
 // The word that begins a line.
-fn put_word(out: &mut [u8], word: &[u8]) -> usize
-    requires { ⌜ length (now word) ≤ length (now out) ⌝ }
-    ensures { λ r. ⌜ Put (now (word .entry)) (now (out .entry)) 0 (now (out .exit)) r ⌝ }
+fn put_word(out: &mut [u8], at: usize, word: &[u8]) -> usize
+    requires { ⌜ at + length (now word) ≤ length (now out) ⌝ }
+    ensures { λ r. ⌜ Put (now (word .entry)) (now (out .entry)) at (now (out .exit)) r ⌝ }
 {
     let mut i = 0;
     while i < word.len() {
-        out[i] = word[i];
+        out[at + i] = word[i];
         i += 1;
     }
-    i
+    at + i
 }
 
 // The first line: the cycle, the number of derived roles and the number of rows.
-pub fn table_line(out: &mut [u8; LONGEST], cycle: u64, roles: u64, rows: u64) -> usize
-    ensures { λ r. ⌜ Line (tableLine cycle roles rows) (now (out .entry)) (now (out .exit)) r ⌝ }
+pub fn table_line(out: &mut [u8], at: usize, cycle: u32, roles: u32, rows: u32) -> usize
+    requires { ⌜ at + 61 ≤ length (now out) ⌝ }
+    ensures { λ r. ⌜ Put (tableLine cycle roles rows) (now (out .entry)) at (now (out .exit)) r × (r ≤ at + 61) ⌝ }
 {
-    let at = put_word(out, b"table ");
+    let at = put_word(out, at, b"table ");
     let at = put_number(out, at, cycle, b' ');
     let at = put_number(out, at, roles, b' ');
     put_number(out, at, rows, b'\n')
@@ -101,15 +102,17 @@ pub fn table_line(out: &mut [u8; LONGEST], cycle: u64, roles: u64, rows: u64) ->
 
 // A derived role: its number, its source role, and its sets of users and permissions.
 pub fn role_line(
-    out: &mut [u8; LONGEST],
-    number: u64,
-    source: u64,
+    out: &mut [u8],
+    at: usize,
+    number: u32,
+    source: u32,
     users: u64,
     permissions: u64,
 ) -> usize
-    ensures { λ r. ⌜ Line (roleLine number source users permissions) (now (out .entry)) (now (out .exit)) r ⌝ }
+    requires { ⌜ at + 61 ≤ length (now out) ⌝ }
+    ensures { λ r. ⌜ Put (roleLine number source users permissions) (now (out .entry)) at (now (out .exit)) r × (r ≤ at + 61) ⌝ }
 {
-    let at = put_word(out, b"role ");
+    let at = put_word(out, at, b"role ");
     let at = put_number(out, at, number, b' ');
     let at = put_number(out, at, source, b' ');
     let at = put_set(out, at, users, b' ');
@@ -118,16 +121,18 @@ pub fn role_line(
 
 // A row: its derived role, its era and its cell.
 pub fn row_line(
-    out: &mut [u8; LONGEST],
-    derived: u64,
-    begin: u64,
-    end: u64,
-    offset: u64,
-    length: u64,
+    out: &mut [u8],
+    at: usize,
+    derived: u32,
+    begin: u32,
+    end: u32,
+    offset: u32,
+    length: u32,
 ) -> usize
-    ensures { λ r. ⌜ Line (rowLine derived begin end offset length) (now (out .entry)) (now (out .exit)) r ⌝ }
+    requires { ⌜ at + 61 ≤ size (now out) ⌝ }
+    ensures { λ r. ⌜ Put (rowLine derived begin end offset length) (now (out .entry)) at (now (out .exit)) r × (r ≤ at + 61) ⌝ }
 {
-    let at = put_word(out, b"row ");
+    let at = put_word(out, at, b"row ");
     let at = put_number(out, at, derived, b' ');
     let at = put_number(out, at, begin, b' ');
     let at = put_number(out, at, end, b' ');
@@ -136,9 +141,10 @@ pub fn row_line(
 }
 
 // The one line of a refusal.
-pub fn refused_line(out: &mut [u8; LONGEST], n: u64) -> usize
-    ensures { λ r. ⌜ Line (refusedLine n) (now (out .entry)) (now (out .exit)) r ⌝ }
+pub fn refused_line(out: &mut [u8], at: usize, n: u32) -> usize
+    requires { ⌜ at + 61 ≤ length (now out) ⌝ }
+    ensures { λ r. ⌜ Put (refusedLine n) (now (out .entry)) at (now (out .exit)) r × (r ≤ at + 61) ⌝ }
 {
-    let at = put_word(out, b"refused ");
+    let at = put_word(out, at, b"refused ");
     put_number(out, at, n, b'\n')
 }

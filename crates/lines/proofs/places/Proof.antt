@@ -16,7 +16,7 @@ loop-holds : tie.Need-loop-holds Inv-loop μ-loop
 loop-holds c = omega arith
 
 add-k : tie.Need-add-k Inv-loop μ-loop
-add-k c = omega (arith, places-most 19 (c .before .before .args .n) (omega arith))
+add-k c = omega (arith, places-most 9 (c .before .before .args .n) (omega arith))
 
 loop-less : tie.Need-loop-less Inv-loop μ-loop
 loop-less c = omega arith
@@ -25,7 +25,7 @@ loop-again : tie.Need-loop-again Inv-loop μ-loop
 loop-again c = omega (arith, places-high (c .before .loop .rest) (omega arith))
 
 returns : tie.Need-returns Inv-loop μ-loop
-returns c = omega (arith, places-low (c .before .loop .rest) (omega arith), places-most 19 (c .before .before .args .n) (omega arith))
+returns c = omega (arith, places-low (c .before .loop .rest) (omega arith), places-most 9 (c .before .before .args .n) (omega arith))
 
 pub places-spec : {M : Type 1} → statement M
 places-spec = tie.close (tie.spec Inv-loop μ-loop loop-holds add-k loop-less loop-again returns)

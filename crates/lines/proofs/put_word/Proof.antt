@@ -2,23 +2,27 @@ use Rattle.lines.proofs.PutLaws.{word-turn, word-put}
 use borrow.Author.Needs.{needs}
 use lib.Seq.{sets}
 use lib.ListN.{length, drop, length-set}
+use native.Mathlib.Nat.{add-zero}
 use native.Mathlib.Omega.{arith}
 use mathlib.Core.Path.{_≡_, _∙_}
-use Prim.Native.Nat.{_-_, _≤_}
+use Prim.Native.Nat.{_+_, _-_, _≤_}
 use Rattle.lines.proofs.put_word.Statement.{statement}
 use Rattle.lines.proofs.put_word.Tie as tie
 
 abbrev Inv-loop : tie.InvT-loop
-Inv-loop out₀ word i₀ out i = (i ≤ length word) × (length out ≡ length out₀) × (sets out i (drop i word) ≡ sets out₀ 0 word)
+Inv-loop out₀ at word i₀ out i = (i ≤ length word) × (length out ≡ length out₀) × (sets out (at + i) (drop i word) ≡ sets out₀ at word)
 
 abbrev μ-loop : tie.MeasureT-loop
-μ-loop out₀ word i₀ out i = length word - i
+μ-loop out₀ at word i₀ out i = length word - i
 
 loop-holds : tie.Need-loop-holds Inv-loop μ-loop
-loop-holds c = search needs
+loop-holds c = (omega arith, omega arith, rw add-zero)
 
 shared-slice-read-out : tie.Need-shared-slice-read-out Inv-loop μ-loop
 shared-slice-read-out c = search needs
+
+add-out : tie.Need-add-out Inv-loop μ-loop
+add-out c = search needs
 
 slice-write-out : tie.Need-slice-write-out Inv-loop μ-loop
 slice-write-out c = search needs
@@ -30,13 +34,16 @@ loop-less : tie.Need-loop-less Inv-loop μ-loop
 loop-less c = search needs
 
 loop-again : tie.Need-loop-again Inv-loop μ-loop
-loop-again c = let l = c .before .before .loop in (omega arith, simp length-set (omega arith), word-turn (l .out) (l .i) (c .before .before .before .args .word .now) (c .before .loop-test .taken) ∙ l .inv .2)
+loop-again c = let l = c .before .before .loop in let a = c .before .before .before .args in (omega arith, simp length-set (omega arith), word-turn (l .out) (a .at) (l .i) (a .word .now) (c .before .loop-test .taken) ∙ l .inv .2)
+
+add-result : tie.Need-add-result Inv-loop μ-loop
+add-result c = search needs
 
 same-length : tie.Need-same-length Inv-loop μ-loop
 same-length c = search needs
 
 returns : tie.Need-returns Inv-loop μ-loop
-returns c = let l = c .before .loop in word-put (l .i) (c .before .before .args .word .now) (omega arith) (l .inv .2)
+returns c = let l = c .before .loop in let a = c .before .before .args in word-put (a .at) (l .i) (a .word .now) (omega arith) (l .inv .2)
 
 pub put-word-spec : {M : Type 1} → statement M
 put-word-spec =
@@ -46,9 +53,11 @@ put-word-spec =
     μ-loop
     loop-holds
     shared-slice-read-out
+    add-out
     slice-write-out
     add-i
     loop-less
     loop-again
+    add-result
     same-length
     returns)

@@ -1,4 +1,4 @@
-use Rattle.lines.proofs.PutLaws.{put-more, put-line}
+use Rattle.lines.proofs.PutLaws.{put-more}
 use Rattle.lines.specs.Lines.{ascii, decimal, refusedLine}
 use native.Mathlib.Omega.{arith}
 use borrow.Author.Needs.{needs}
@@ -14,10 +14,18 @@ put-word-requires c κs = search needs
 put-number-requires : tie.Need-put-number-requires
 put-number-requires c κs = search needs
 
+same-length : tie.Need-same-length
+same-length c = search needs
+
 returns : tie.Need-returns
 unfolding ascii refusedLine
-returns c = put-line (put-more (decimal (c .before .before .before .before .before .args .n)) (ascii "\n") (c .before .before .put-word .ensures) (c .put-number .ensures .0)) (omega arith)
+returns c =
+    let one = c .before .before in
+    let word = one .before .before .before .before in
+    let a = word .before .before .before .before .args in
+    (put-more (decimal (a .n)) (ascii "\n") (word .put-word .ensures) (one .put-number .ensures .0), omega arith)
 
 pub refused-line-spec : {M : Type 1} → statement M
 refused-line-spec =
-    tie.close (tie.spec slice-aggregate-put-word put-word-requires put-number-requires returns)
+    tie.close
+    (tie.spec slice-aggregate-put-word put-word-requires put-number-requires same-length returns)

@@ -1,4 +1,4 @@
-use Rattle.lines.proofs.PutLaws.{put-more, put-line}
+use Rattle.lines.proofs.PutLaws.{put-more}
 use Rattle.lines.specs.Lines.{ascii, decimal, hex16, roleLine}
 use native.Mathlib.Omega.{arith}
 use borrow.Author.Needs.{needs}
@@ -23,14 +23,22 @@ put-set-requires c κs = search needs
 put-set-requires-2 : tie.Need-put-set-requires-2
 put-set-requires-2 c κs = search needs
 
+same-length : tie.Need-same-length
+same-length c = search needs
+
 returns : tie.Need-returns
 unfolding ascii roleLine
 returns c =
-    let a = c .before .before .before .before .before .before .before .before .before .before .before .args in
-    let one = put-more (decimal (a .number)) (ascii " ") (c .before .before .before .before .before .before .before .before .put-word .ensures) (c .before .before .before .before .before .before .put-number .ensures .0) in
-    let two = put-more (decimal (a .source)) (ascii " ") one (c .before .before .before .before .put-number2 .ensures .0) in
-    let three = put-more (hex16 (a .users)) (ascii " ") two (c .before .before .put-set .ensures .0) in
-    put-line (put-more (hex16 (a .permissions)) (ascii "\n") three (c .put-set2 .ensures .0)) (omega arith)
+    let four = c .before .before in
+    let three = four .before .before .before .before in
+    let two = three .before .before .before .before in
+    let one = two .before .before .before .before in
+    let word = one .before .before .before .before in
+    let a = word .before .before .before .before .args in
+    let to-one = put-more (decimal (a .number)) (ascii " ") (word .put-word .ensures) (one .put-number .ensures .0) in
+    let to-two = put-more (decimal (a .source)) (ascii " ") to-one (two .put-number2 .ensures .0) in
+    let to-three = put-more (hex16 (a .users)) (ascii " ") to-two (three .put-set .ensures .0) in
+    (put-more (hex16 (a .permissions)) (ascii "\n") to-three (four .put-set2 .ensures .0), omega arith)
 
 pub role-line-spec : {M : Type 1} → statement M
 role-line-spec =
@@ -42,4 +50,5 @@ role-line-spec =
     put-number-requires-2
     put-set-requires
     put-set-requires-2
+    same-length
     returns)

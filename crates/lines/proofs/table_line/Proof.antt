@@ -1,4 +1,4 @@
-use Rattle.lines.proofs.PutLaws.{put-more, put-line}
+use Rattle.lines.proofs.PutLaws.{put-more}
 use Rattle.lines.specs.Lines.{ascii, decimal, tableLine}
 use native.Mathlib.Omega.{arith}
 use borrow.Author.Needs.{needs}
@@ -20,13 +20,20 @@ put-number-requires-2 c κs = search needs
 put-number-requires-3 : tie.Need-put-number-requires-3
 put-number-requires-3 c κs = search needs
 
+same-length : tie.Need-same-length
+same-length c = search needs
+
 returns : tie.Need-returns
 unfolding ascii tableLine
 returns c =
-    let a = c .before .before .before .before .before .before .before .before .before .args in
-    let one = put-more (decimal (a .cycle)) (ascii " ") (c .before .before .before .before .before .before .put-word .ensures) (c .before .before .before .before .put-number .ensures .0) in
-    let two = put-more (decimal (a .roles)) (ascii " ") one (c .before .before .put-number2 .ensures .0) in
-    put-line (put-more (decimal (a .rows)) (ascii "\n") two (c .put-number3 .ensures .0)) (omega arith)
+    let three = c .before .before in
+    let two = three .before .before .before .before in
+    let one = two .before .before .before .before in
+    let word = one .before .before .before .before in
+    let a = word .before .before .before .before .args in
+    let to-one = put-more (decimal (a .cycle)) (ascii " ") (word .put-word .ensures) (one .put-number .ensures .0) in
+    let to-two = put-more (decimal (a .roles)) (ascii " ") to-one (two .put-number2 .ensures .0) in
+    (put-more (decimal (a .rows)) (ascii "\n") to-two (three .put-number3 .ensures .0), omega arith)
 
 pub table-line-spec : {M : Type 1} → statement M
 table-line-spec =
@@ -37,4 +44,5 @@ table-line-spec =
     put-number-requires
     put-number-requires-2
     put-number-requires-3
+    same-length
     returns)
