@@ -141,10 +141,10 @@ pub fn row_line(
 }
 
 // The one line of a refusal.
-pub fn refused_line(out: &mut [u8], at: usize, n: u32) -> usize
+pub fn refused_line(out: &mut [u8], at: usize, n: u8) -> usize
     requires { ⌜ at + 61 ≤ length (now out) ⌝ }
     ensures { λ r. ⌜ Put (refusedLine n) (now (out .entry)) at (now (out .exit)) r × (r ≤ at + 61) ⌝ }
 {
     let at = put_word(out, at, b"refused ");
-    put_number(out, at, n, b'\n')
+    put_number(out, at, n as u32, b'\n')
 }

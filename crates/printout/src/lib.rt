@@ -95,7 +95,7 @@ pub fn print(s: &[u8], out: &mut [u8; LONGEST]) -> usize
     }
     let mut area = [0u8; 65536];
     match rewriting::rewrite(s, &mut area) {
-        Rewritten::Refused(n) => lines::refused_line(out, 0, n as u32),
+        Rewritten::Refused(n) => lines::refused_line(out, 0, n),
         Rewritten::Wrote {
             derived: _,
             rows: _,

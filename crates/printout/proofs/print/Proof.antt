@@ -23,9 +23,6 @@ rewrite-requires c κs = search needs
 enum-known-n : tie.Need-enum-known-n
 enum-known-n c = search needs
 
-cast-refused-line : tie.Need-cast-refused-line
-cast-refused-line c = search needs
-
 refused-line-requires-2 : tie.Need-refused-line-requires-2
 refused-line-requires-2 c κs = search needs
 
@@ -65,7 +62,6 @@ print-spec =
     slice-aggregate-rewrite
     rewrite-requires
     enum-known-n
-    cast-refused-line
     refused-line-requires-2
     enum-told
     slice-aggregate-put-table

@@ -44,7 +44,7 @@ loop-again c =
     let test = c .before .before .before .before in
     let l = test .before .loop in
     let a = test .before .before .before .before .args in
-    let more = rows-more (a .t .now) (a .n) (l .left) (l .p) (test .loop-test .taken) (l .inv .0) (l .inv .1) in
+    let more = rows-more (a .t .now) (a .n) (l .left) (l .p) (omega arith) (l .inv .0) (l .inv .1) in
     (omega arith, omega arith, put-same more (put-after (l .inv .2) (c .before .before .put-row .ensures .0)), omega arith)
 
 same-length : tie.Need-same-length Inv-loop μ-loop
