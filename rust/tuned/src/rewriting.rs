@@ -1,47 +1,188 @@
-//! Rewriting a rota into an area. Which hours hold is settled once for each era and once for each
-//! cell; a field has those of both. A role's sets follow from the hours that its rows name, so
-//! each set of these is looked into once for each role.
+//! Rewriting a rota into an area. What a role has in a field depends only on the set of hours that
+//! hold there. The distinct ones of these sets are numbered once, by first field, for all roles; a
+//! role is then derived over them, and not over fields. Rows are counted before that, so that an
+//! area that is too small for them is refused early.
 
-use std::collections::HashMap;
-use std::hash::{BuildHasherDefault, Hasher};
+use std::ops::Range;
 
 use reference::rewriting::Written;
 use reference::table::Row;
 use reference::{END, Refusal};
 
+use crate::ensure;
 use crate::rota::{self, Rota};
-use crate::table::{Entry, HEADER_SIZE, RowBytes, encode, entry, header, size};
+use crate::table::{Entry, HEADER_SIZE, encode, entry, header, size};
 
-/// An era or a cell, with the set of numbered hours that hold throughout.
-struct Stretch {
-    from: u32,
-    to: u32,
-    held: u32,
+/// All minutes, or the cycle, divided into eras or cells.
+struct Parts {
+    /// Where each part begins, and where the last ends.
+    cuts: Vec<u32>,
+    /// For each part the set of numbered hours that hold throughout, by dates or by pairs.
+    held: Vec<u32>,
 }
 
-/// What lies between neighbouring values of 0, `limit` and both ends of all that is covered.
-fn stretches(limit: u32, covered: &[(u32, u32, u32)]) -> Vec<Stretch> {
-    let ends = covered.iter().flat_map(|&(from, to, _)| [from, to]);
-    let mut cuts: Vec<u32> = [0, limit].into_iter().chain(ends).collect();
-    cuts.sort_unstable();
-    cuts.dedup();
-    let mut stretches: Vec<Stretch> =
-        cuts.windows(2).map(|two| Stretch { from: two[0], to: two[1], held: 0 }).collect();
-    for &(from, to, hours) in covered {
-        let place = |value: u32| cuts.partition_point(|&cut| cut < value);
-        for stretch in &mut stretches[place(from)..place(to)] {
-            stretch.held |= 1 << hours;
+impl Parts {
+    /// What lies between neighbouring values of 0, `limit` and both ends of all that is covered:
+    /// where hours hold from and to, and their number. What the same hours cover does not touch.
+    fn new<I: Iterator<Item = (u32, u32, u32)>>(limit: u32, covered: impl Fn() -> I) -> Parts {
+        let mut cuts = vec![0, limit];
+        cuts.extend(covered().flat_map(|(from, to, _)| [from, to]));
+        cuts.sort_unstable();
+        cuts.dedup();
+        // First what changes at each cut.
+        let mut held = vec![0; cuts.len()];
+        for (from, to, hours) in covered() {
+            for edge in [from, to] {
+                held[cuts.partition_point(|&cut| cut < edge)] ^= 1 << hours;
+            }
+        }
+        held.pop();
+        let mut before = 0;
+        for held in &mut held {
+            before ^= *held;
+            *held = before;
+        }
+        Parts { cuts, held }
+    }
+}
+
+/// The fields of a rota: each era with each of the cells with which it shares a minute.
+struct Grid {
+    eras: Parts,
+    cells: Parts,
+    /// An era and cells of it, side by side: all fields in their order.
+    runs: Vec<(usize, Range<usize>)>,
+}
+
+impl Grid {
+    fn new(rota: &Rota) -> Grid {
+        let records = || (0..).zip(rota.records());
+        let eras =
+            Parts::new(END, || records().map(|(hours, record)| (record.begin, record.end, hours)));
+        let cells = Parts::new(rota.cycle, || {
+            records()
+                .flat_map(|(hours, record)| record.pairs().map(move |(from, to)| (from, to, hours)))
+        });
+        let mut grid = Grid { runs: Vec::with_capacity(eras.held.len()), eras, cells };
+        (0..grid.eras.held.len()).for_each(|era| grid.add_runs(rota.cycle, era));
+        grid
+    }
+
+    /// One run of cells, or two where the remainders of the era's minutes go past the cycle's end
+    /// and leave cells out.
+    fn add_runs(&mut self, cycle: u32, era: usize) {
+        let (from, to) = (self.eras.cuts[era], self.eras.cuts[era + 1]);
+        let cuts = &self.cells.cuts;
+        let all = cuts.len() - 1;
+        if to - from >= cycle {
+            return self.runs.push((era, 0..all));
+        }
+        let phase = from % cycle;
+        let past = phase + (to - from);
+        let first = cuts.partition_point(|&cut| cut <= phase) - 1;
+        if past <= cycle {
+            return self.runs.push((era, first..cuts.partition_point(|&cut| cut < past)));
+        }
+        let again = cuts.partition_point(|&cut| cut + cycle < past);
+        if first <= again {
+            self.runs.push((era, 0..all));
+        } else {
+            self.runs.extend([(era, 0..again), (era, first..all)]);
         }
     }
-    stretches
+
+    /// The hours that hold in each field of a run.
+    #[inline]
+    fn held(&self, (era, cells): &(usize, Range<usize>)) -> impl Iterator<Item = u32> {
+        let by_dates = self.eras.held[*era];
+        self.cells.held[cells.clone()].iter().map(move |by_pairs| by_dates & by_pairs)
+    }
+
+    /// How many fields a role keeps; it may stop once they are more than `limit`.
+    fn rows(&self, role: &Role, limit: usize) -> usize {
+        let mut rows = 0;
+        for run in &self.runs {
+            rows += self.held(run).filter(|&held| role.keeps(held)).count();
+            if rows > limit {
+                break;
+            }
+        }
+        rows
+    }
+
+    /// The distinct sets of hours, by first field, and for each field the number of its own.
+    fn sets(&self) -> (Vec<u32>, Vec<u16>) {
+        let fields = self.runs.iter().map(|(_, cells)| cells.len()).sum();
+        let mut distinct = Numbering::new(fields);
+        let mut numbers = Vec::with_capacity(fields);
+        for run in &self.runs {
+            numbers.extend(self.held(run).map(|held| distinct.number(held)));
+        }
+        (distinct.keys, numbers)
+    }
 }
 
-/// Whether some minute of the era has its remainder in the cell.
-fn meets(cycle: u32, era: &Stretch, cell: &Stretch) -> bool {
-    let phase = era.from % cycle;
-    // The era's remainders run on past the cycle's end, where they begin again.
-    let past = phase + (era.to - era.from);
-    (phase < cell.to && cell.from < past) || cell.from + cycle < past
+/// What is numbered. Keys are spread by multiplying, and the high bits count.
+trait Key: Copy + PartialEq {
+    fn spread(self) -> u64;
+}
+
+const ODD: u64 = 0x9e37_79b9_7f4a_7c15;
+
+impl Key for u32 {
+    #[inline]
+    fn spread(self) -> u64 {
+        u64::from(self).wrapping_mul(ODD)
+    }
+}
+
+impl Key for (u64, u64) {
+    #[inline]
+    fn spread(self) -> u64 {
+        let first = self.0.wrapping_mul(ODD);
+        (first ^ first >> 32 ^ self.1).wrapping_mul(ODD)
+    }
+}
+
+/// Numbers keys in the order in which they are first seen.
+struct Numbering<K> {
+    keys: Vec<K>,
+    /// One more than a key's number, at the first free place from the one to which it is spread.
+    places: Vec<u16>,
+    shift: u32,
+}
+
+impl<K: Key> Numbering<K> {
+    /// For at most so many keys; there are never more than 33,345 fields.
+    fn new(most: usize) -> Self {
+        let places = (2 * most).next_power_of_two().max(2);
+        Numbering {
+            keys: Vec::with_capacity(most),
+            places: vec![0; places],
+            shift: 64 - places.ilog2(),
+        }
+    }
+
+    fn clear(&mut self) {
+        self.keys.clear();
+        self.places.fill(0);
+    }
+
+    #[inline]
+    fn number(&mut self, key: K) -> u16 {
+        let mut place = (key.spread() >> self.shift) as usize;
+        loop {
+            match self.places[place] {
+                0 => {
+                    self.keys.push(key);
+                    self.places[place] = self.keys.len() as u16;
+                    return self.keys.len() as u16 - 1;
+                }
+                found if self.keys[usize::from(found) - 1] == key => return found - 1,
+                _ => place = (place + 1) & (self.places.len() - 1),
+            }
+        }
+    }
 }
 
 /// A role's users, or its permissions, by the hours of their rows.
@@ -65,27 +206,70 @@ impl Numbers {
         *numbers |= 1 << number;
     }
 
-    fn is_empty(&self) -> bool {
-        self.always == 0 && self.hours == 0
-    }
-
-    fn at(&self, held: u32) -> u64 {
-        let (mut numbers, mut left) = (self.always, held & self.hours);
-        while left != 0 {
-            numbers |= self.numbered[left.trailing_zeros() as usize];
-            left &= left - 1;
-        }
-        numbers
+    /// Whether there are any while these hours hold.
+    #[inline]
+    fn are_any(&self, held: u32) -> bool {
+        (held & self.hours) | u32::from(self.always != 0) != 0
     }
 }
 
-/// All that a rota says of a role.
+/// The union of a role's numbers for every set of hours within the same four: eight of these give
+/// that of any set.
+struct Unions {
+    always: u64,
+    by_four: [[u64; 16]; 8],
+}
+
+impl Unions {
+    fn new() -> Unions {
+        Unions { always: 0, by_four: [[0; 16]; 8] }
+    }
+
+    /// Takes the numbers of another role; there are so many hours.
+    fn fill(&mut self, numbers: &Numbers, hours: u8) {
+        self.always = numbers.always;
+        for (hour, &more) in numbers.numbered[..hours.into()].iter().enumerate() {
+            let unions = &mut self.by_four[hour / 4];
+            let (without, with) = unions[..2 << (hour % 4)].split_at_mut(1 << (hour % 4));
+            for (with, without) in with.iter_mut().zip(without) {
+                *with = *without | more;
+            }
+        }
+    }
+
+    #[inline]
+    fn at(&self, held: u32) -> u64 {
+        (0..).zip(&self.by_four).fold(self.always, |all, (four, unions)| {
+            all | unions[(held >> (4 * four) & 15) as usize]
+        })
+    }
+}
+
+/// All that a rota says of a role, and what the rewriting has found.
 #[derive(Clone, Default)]
 struct Role {
     /// The hours in which it is enabled; none where it always is.
     enabled: u32,
     users: Numbers,
     permissions: Numbers,
+    /// How many rows it has, and the number of its first derived role.
+    rows: usize,
+    first: u32,
+}
+
+impl Role {
+    /// Whether it is enabled and has users and permissions while these hours hold.
+    #[inline]
+    fn keeps(&self, held: u32) -> bool {
+        (held & self.enabled == self.enabled)
+            & self.users.are_any(held)
+            & self.permissions.are_any(held)
+    }
+
+    /// The hours that make a difference to it.
+    fn named(&self) -> u32 {
+        self.enabled | self.users.hours | self.permissions.hours
+    }
 }
 
 fn roles(rota: &Rota) -> Vec<Role> {
@@ -102,159 +286,102 @@ fn roles(rota: &Rota) -> Vec<Role> {
     roles
 }
 
-/// Multiplies, and brings the high bits down. A role has at most 33,345 fields, so even keys that
-/// were chosen to collide cost little.
-#[derive(Default)]
-struct Multiply(u64);
-
-impl Hasher for Multiply {
-    fn write(&mut self, bytes: &[u8]) {
-        bytes.iter().for_each(|&byte| self.write_u64(byte.into()));
-    }
-
-    fn write_u32(&mut self, number: u32) {
-        self.write_u64(number.into());
-    }
-
-    fn write_u64(&mut self, number: u64) {
-        self.0 = (self.0.rotate_left(5) ^ number).wrapping_mul(0x9e37_79b9_7f4a_7c15);
-    }
-
-    fn finish(&self) -> u64 {
-        self.0 ^ self.0 >> 32
-    }
+/// The scratch in which one role after the other is derived.
+struct Deriver {
+    users: Unions,
+    permissions: Unions,
+    known: Numbering<(u64, u64)>,
 }
 
-type Map<K, V> = HashMap<K, V, BuildHasherDefault<Multiply>>;
-
-/// A row that is to be written: its derived role, and the numbers of its era and cell.
-struct Kept {
-    derived: u32,
-    era: u16,
-    cell: u16,
-}
-
-/// The derived roles and rows of a table, as long as there is room for them.
-struct Builder {
-    entries: Vec<Entry>,
-    rows: Vec<Kept>,
-    room: usize,
-}
-
-impl Builder {
-    /// Takes room for `bytes` more; 20 where there is none.
-    fn take(&mut self, bytes: usize) -> Result<(), Refusal> {
-        self.room = self.room.checked_sub(bytes).ok_or(20u32)?;
-        Ok(())
-    }
-
-    fn role(
-        &mut self,
-        source: u8,
-        role: &Role,
-        cycle: u32,
-        eras: &[Stretch],
-        cells: &[Stretch],
-    ) -> Result<(), Refusal> {
-        let named = role.users.hours | role.permissions.hours;
-        let mut known: Map<(u64, u64), u32> = Map::default();
-        // For the hours that hold of those that rows name: the derived role, if there is one.
-        let mut looked_up: Map<u32, Option<u32>> = Map::default();
-        // Neighbouring cells often differ only in hours that the role does not name.
+impl Deriver {
+    /// Adds a mark for each of the sets of hours: 0 where the role does not keep it, else one more
+    /// than the number of its derived role, counted within the role.
+    fn derive(&mut self, role: &Role, hours: u8, sets: &[u32], marks: &mut Vec<u16>) {
+        self.users.fill(&role.users, hours);
+        self.permissions.fill(&role.permissions, hours);
+        self.known.clear();
+        let named = role.named();
+        // Neighbours often differ only in hours that the role does not name.
         let mut last = None;
-        for (era_number, era) in (0..).zip(eras) {
-            if era.held & role.enabled != role.enabled {
-                continue;
-            }
-            let is_whole = era.to - era.from >= cycle;
-            for (cell_number, cell) in (0..).zip(cells) {
-                let held = era.held & cell.held;
-                if held & role.enabled != role.enabled || !(is_whole || meets(cycle, era, cell)) {
-                    continue;
-                }
-                let held = held & named;
-                let derived = match last {
-                    Some((same, derived)) if same == held => derived,
-                    _ => match looked_up.get(&held) {
-                        Some(&derived) => derived,
-                        None => {
-                            let derived = self.derive(source, role, held, &mut known)?;
-                            looked_up.insert(held, derived);
-                            derived
-                        }
-                    },
-                };
-                last = Some((held, derived));
-                if let Some(derived) = derived {
-                    self.take(size_of::<RowBytes>())?;
-                    self.rows.push(Kept { derived, era: era_number, cell: cell_number });
+        marks.extend(sets.iter().map(|&held| {
+            let held = held & named;
+            match last {
+                Some((same, mark)) if same == held => mark,
+                _ => {
+                    let mark = if role.keeps(held) { 1 + self.number(held) } else { 0 };
+                    last = Some((held, mark));
+                    mark
                 }
             }
-        }
-        Ok(())
+        }));
     }
 
-    /// The derived role of the sets that the role has while these hours hold; none where one of
-    /// them is empty.
-    fn derive(
-        &mut self,
-        source: u8,
-        role: &Role,
-        held: u32,
-        known: &mut Map<(u64, u64), u32>,
-    ) -> Result<Option<u32>, Refusal> {
-        let sets @ (users, permissions) = (role.users.at(held), role.permissions.at(held));
-        if users == 0 || permissions == 0 {
-            return Ok(None);
-        }
-        if let Some(&derived) = known.get(&sets) {
-            return Ok(Some(derived));
-        }
-        self.take(size_of::<Entry>())?;
-        let derived = self.entries.len() as u32;
-        self.entries.push(entry(source, users, permissions));
-        known.insert(sets, derived);
-        Ok(Some(derived))
+    #[inline]
+    fn number(&mut self, held: u32) -> u16 {
+        self.known.number((self.users.at(held), self.permissions.at(held)))
     }
 }
 
 /// Rewrites the bytes of a rota. Nothing is written before all of the table is known to fit.
 pub fn rewrite(bytes: &[u8], area: &mut [u8]) -> Result<Written, Refusal> {
     let rota = Rota::read(bytes)?;
-    let cycle = rota.cycle;
-    let (mut spans, mut pairs) = (Vec::new(), Vec::new());
-    for (hours, record) in (0..).zip(rota.records()) {
-        spans.push((record.begin, record.end, hours));
-        pairs.extend(record.pairs().map(|(from, to)| (from, to, hours)));
-    }
-    let (eras, cells) = (stretches(END, &spans), stretches(cycle, &pairs));
-
-    let mut table = Builder { entries: Vec::new(), rows: Vec::new(), room: area.len() };
-    table.take(HEADER_SIZE)?;
-    for (source, role) in (0..).zip(&roles(&rota)) {
-        if role.users.is_empty() || role.permissions.is_empty() {
-            continue;
-        }
-        table.role(source, role, cycle, &eras, &cells)?;
+    let fits = |entries: usize, rows: usize| {
+        ensure(size(entries as u64, rows as u64) <= area.len() as u64, 20)
+    };
+    let grid = Grid::new(&rota);
+    let mut roles = roles(&rota);
+    fits(0, 0)?;
+    let mut row_count = 0;
+    for role in &mut roles {
+        role.rows = grid.rows(role, area.len() / 16);
+        row_count += role.rows;
+        fits(0, row_count)?;
     }
 
-    let Builder { entries, rows, .. } = table;
-    let (derived, row_count) = (entries.len() as u32, rows.len() as u32);
-    let length = size(derived.into(), row_count.into()) as usize;
+    let (sets, set_of) = grid.sets();
+    let mut deriver = Deriver {
+        users: Unions::new(),
+        permissions: Unions::new(),
+        known: Numbering::new(sets.len()),
+    };
+    let mut entries: Vec<Entry> = Vec::new();
+    let mut marks = Vec::with_capacity(roles.len() * sets.len());
+    for (source, role) in (0..).zip(&mut roles).filter(|(_, role)| role.rows > 0) {
+        role.first = entries.len() as u32;
+        deriver.derive(role, rota.hours, &sets, &mut marks);
+        let sets = deriver.known.keys.iter();
+        entries.extend(sets.map(|&(users, permissions)| entry(source, users, permissions)));
+        fits(entries.len(), row_count)?;
+    }
+
+    let (derived, rows) = (entries.len() as u32, row_count as u32);
+    let length = size(derived.into(), rows.into()) as usize;
     let (head, body) = area[..length].split_at_mut(HEADER_SIZE);
-    head.copy_from_slice(&header(&rota, derived, row_count));
+    head.copy_from_slice(&header(&rota, derived, rows));
     let (entry_place, row_place) = body.split_at_mut(size_of_val(&entries[..]));
     entry_place.copy_from_slice(entries.as_flattened());
     let (row_place, _) = row_place.as_chunks_mut();
-    for (place, kept) in row_place.iter_mut().zip(rows) {
-        let (era, cell) = (&eras[usize::from(kept.era)], &cells[usize::from(kept.cell)]);
-        *place = encode(&Row {
-            derived: kept.derived,
-            begin: era.from,
-            end: era.to,
-            offset: cell.from as u16,
-            length: (cell.to - cell.from) as u16,
-        });
+    let mut places = row_place.iter_mut();
+    let kept = roles.iter().filter(|role| role.rows > 0);
+    for (role, marks) in kept.zip(marks.chunks_exact(sets.len())) {
+        let mut set_of = set_of.iter();
+        for (era, cells) in &grid.runs {
+            let (begin, end) = (grid.eras.cuts[*era], grid.eras.cuts[era + 1]);
+            let edges = grid.cells.cuts[cells.start..=cells.end].windows(2);
+            for (edges, &set) in edges.zip(&mut set_of) {
+                let mark = marks[usize::from(set)];
+                if mark == 0 {
+                    continue;
+                }
+                *places.next().expect("as many places as rows") = encode(&Row {
+                    derived: role.first + u32::from(mark) - 1,
+                    begin,
+                    end,
+                    offset: edges[0] as u16,
+                    length: (edges[1] - edges[0]) as u16,
+                });
+            }
+        }
     }
-    Ok(Written { derived, rows: row_count, length })
+    Ok(Written { derived, rows, length })
 }

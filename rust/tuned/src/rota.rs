@@ -71,7 +71,7 @@ impl<'a> Record<'a> {
     }
 
     /// Each pair's offset and offset + length.
-    pub fn pairs(&self) -> impl Iterator<Item = (u32, u32)> {
+    pub fn pairs(&self) -> impl Iterator<Item = (u32, u32)> + use<'a> {
         self.pairs.iter().map(|pair| (offset(pair), end(pair)))
     }
 }
