@@ -1,5 +1,6 @@
 //! Inputs for the tests: `generate` builds them from the numbers of `random`, `data` reads those
-//! of the files, and `case` runs them so that a failing one can be repeated.
+//! of the files, `worst` has those that take longest, and `case` runs them so that a failing one
+//! can be repeated.
 
 #![forbid(unsafe_code)]
 
@@ -7,3 +8,4 @@ pub mod case;
 pub mod data;
 pub mod generate;
 pub mod random;
+pub mod worst;

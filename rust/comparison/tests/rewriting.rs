@@ -4,7 +4,7 @@ use std::time::Instant;
 
 use cases::case::{Case, Tally, cases, print, tallied};
 use cases::generate::{Sets, fine_rota, most_sets_rota};
-use cases::{data, generate};
+use cases::{data, generate, worst};
 use comparison::compare::rewriting::{self, Lent, compare, compare_areas};
 use comparison::expected::rewriting::Whole;
 use comparison::ffi;
@@ -271,8 +271,8 @@ fn every_length_and_byte() {
     tally.reached([0, 1, 9, 20]);
 }
 
-/// A fine rota into 64 KiB, which is too little for it, and into an area of its table's size.
-fn compare_fine(name: &'static str, rota: &Rota, rows: u32) -> Whole {
+/// A large rota into 64 KiB, which is too little for it, and into an area of its table's size.
+fn compare_fine(name: &'static str, rota: &Rota) -> Whole {
     let mut tally = Tally::new(name);
     let mut case = Case::new(name, 0);
     let lent = Lent::new(rota.encode());
@@ -282,7 +282,6 @@ fn compare_fine(name: &'static str, rota: &Rota, rows: u32) -> Whole {
     let refused = start.elapsed();
     assert_eq!(compare(&mut case, &mut tally, &lent, size), 0);
     let whole = lent.whole.expect("accepted");
-    assert_eq!(whole.rows, rows);
     print(&format!(
         "{name}: {} derived roles, {} rows, {size} bytes; {} ms, of which 64 KiB refused {} ms",
         whole.derived,
@@ -300,8 +299,8 @@ const MOST: u32 = 65 * 513 * 32;
 fn most_rows() {
     let mut case = Case::new("most_rows", 0);
     let rota = fine_rota(&mut case.random, 32, 8, 32, Sets::Same);
-    let whole = compare_fine("most_rows", &rota, MOST);
-    assert_eq!((whole.derived, whole.rows), (32, 1_067_040));
+    let whole = compare_fine("most_rows", &rota);
+    assert_eq!((whole.derived, whole.rows), (32, MOST));
 }
 
 /// As many fields, with thousands of derived roles of one role.
@@ -309,7 +308,8 @@ fn most_rows() {
 fn many_sets_of_one_role() {
     let mut case = Case::new("many_sets_of_one_role", 0);
     let rota = fine_rota(&mut case.random, 32, 8, 1, Sets::Many);
-    let whole = compare_fine("many_sets_of_one_role", &rota, 65 * 513);
+    let whole = compare_fine("many_sets_of_one_role", &rota);
+    assert_eq!(whole.rows, 65 * 513);
     assert!(whole.derived > 5_000, "{}", whole.derived);
 }
 
@@ -317,6 +317,18 @@ fn many_sets_of_one_role() {
 #[test]
 fn most_rows_and_most_sets() {
     let mut case = Case::new("most_rows_and_most_sets", 0);
-    let whole = compare_fine("most_rows_and_most_sets", &most_sets_rota(&mut case.random), MOST);
+    let whole = compare_fine("most_rows_and_most_sets", &most_sets_rota(&mut case.random));
+    assert_eq!(whole.rows, MOST);
     assert!(whole.derived > 350_000, "{}", whole.derived);
+}
+
+/// The rotas that are made to take long.
+#[test]
+fn worst_rotas() {
+    let expected =
+        [(32 * 19_412, MOST), (8 * 12_609, MOST / 4), (22 * 12_608, 641_916), (32, 33_376)];
+    for ((name, cut), expected) in worst::cuts().into_iter().zip(expected) {
+        let whole = compare_fine(name, &cut.rota());
+        assert_eq!((whole.derived, whole.rows), expected, "{name}");
+    }
 }

@@ -2,9 +2,9 @@
 //! and cut, their rewriting byte for byte, lists of calls, and the calendar.
 
 use cases::case::{Case, Tally, cases};
-use cases::data;
 use cases::generate::{self, Edges, Sets};
 use cases::random::Random;
+use cases::{data, worst};
 use reference::policy::{Policy, question};
 use reference::rota::Rota;
 use reference::service::{Lent, State, serve};
@@ -154,22 +154,29 @@ fn rewritten() {
         let rota = generate::fine_rota(&mut case.random, 32, 8, roles, sets);
         compare_rewritten(&mut case, &mut tally, &rota.encode());
     }
+    for (_, cut) in worst::cuts() {
+        compare_rewritten(&mut case, &mut tally, &cut.rota().encode());
+    }
     tally.reached((0..=12).chain([20]));
 }
 
 fn compare_rewritten(case: &mut Case, tally: &mut Tally, rota: &[u8]) {
-    let whole = Rota::parse(rota).map(|rota| rewriting::table(&rota).encode());
-    let size = whole.as_ref().map_or(16, Vec::len);
+    let whole = Rota::parse(rota).map(|rota| {
+        let table = rewriting::table(&rota);
+        let (derived, rows) = (table.derived.len() as u32, table.rows.len() as u32);
+        let bytes = table.encode();
+        (rewriting::Written { derived, rows, length: bytes.len() }, bytes)
+    });
+    let size = whole.as_ref().map_or(16, |(_, bytes)| bytes.len());
     let any = case.random.below(2 * size as u32) as usize;
     for size in [size, size - 1, size + 1, 0, any] {
         let filling = case.random.byte();
         let (mut area, mut expected_area) = (vec![filling; size], vec![filling; size]);
         let given = tuned::rewriting::rewrite(rota, &mut area);
-        let expected = match &whole {
-            Err(refusal) => Err(*refusal),
-            Ok(table) if table.len() > size => Err(20),
-            Ok(_) => rewriting::rewrite(rota, &mut expected_area),
-        };
+        let expected = whole.as_ref().map_err(|&refusal| refusal).and_then(|(written, bytes)| {
+            expected_area.get_mut(..bytes.len()).ok_or(20u32)?.copy_from_slice(bytes);
+            Ok(*written)
+        });
         tally.add(expected.err().unwrap_or(0));
         case.same(given, expected, rota, ("area", size));
         assert!(area == expected_area, "the areas differ: seed {} {}", case.seed, case.number);

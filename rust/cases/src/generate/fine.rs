@@ -89,28 +89,48 @@ fn disturbed(random: &mut Random, count: u32, by: u32) -> Vec<u32> {
     numbers.into_iter().map(|(_, i)| i).collect()
 }
 
-/// Everything at its limit, and more derived roles than by equal shares: the hours that last
-/// longest have most of the pairs, and each holds for most of the cycle, so that the sets of two
-/// neighbouring eras or cells seldom agree.
-pub fn most_sets_rota(random: &mut Random) -> Rota {
+/// The records of hours by the order of their cuts. All eras are as long, and all cells. A record
+/// stands twice among the cuts of the eras, where it begins and where it ends, and twice for each
+/// pair among those of the cells.
+pub fn cut_hours(hours: u8, eras: &[u8], cells: &[u8]) -> Vec<Hours> {
+    let era = END / (eras.len() as u32 + 1);
+    let cell = u32::from(LIMITS.cycle) / (cells.len() as u32 + 1);
+    let edges = |cuts: &[u8], size: u32, number: u8| -> Vec<u32> {
+        let all = (1..).zip(cuts).filter(|&(_, &cut)| cut == number);
+        all.map(|(i, _)| i * size).collect()
+    };
+    let pair =
+        |edges: &[u32]| Pair { offset: edges[0] as u16, length: (edges[1] - edges[0]) as u16 };
+    let record = |number: u8| {
+        let dates = edges(eras, era, number);
+        let pairs = edges(cells, cell, number).chunks_exact(2).map(pair).collect();
+        Hours { begin: dates[0], end: dates[1], pairs }
+    };
+    (0..hours).map(record).collect()
+}
+
+/// The 32 records, those that last longest in `most_sets_cuts` first. No row of `most_sets_rota`
+/// names 0 and 16, so these are the shortest.
+pub fn longest_first() -> Vec<u8> {
+    (0..32).filter(|number| number % 16 != 0).chain([0, 16]).collect()
+}
+
+/// Cuts of eras and of cells that give more sets of hours than equal shares do: the hours that
+/// last longest have most of the pairs, and each holds for most of the cycle, so that the sets of
+/// two neighbouring eras or cells seldom agree.
+pub fn most_sets_cuts(random: &mut Random) -> (Vec<u8>, Vec<u8>) {
     /// Pairs of each record, from the hours that last longest; 256 in all.
     const PAIRS: [u32; 32] = [
         37, 37, 30, 25, 21, 17, 14, 12, 10, 8, 7, 5, 5, 4, 3, 3, //
         2, 2, 1, 1, 1, 1, 1, 1, 1, 1, 1, 1, 1, 1, 1, 1,
     ];
     const TURN: u32 = 1 << 20;
-    let era = END / (2 * LIMITS.hours + 1);
-    let cell = u32::from(LIMITS.cycle) / (2 * LIMITS.pairs + 1);
-    // No row names hours 0 and 16, so these are the shortest.
-    let mut numbers: Vec<usize> = (0..32).filter(|number| number % 16 != 0).collect();
-    numbers.extend([0, 16]);
-    let mut all_hours = vec![Hours { begin: 0, end: 0, pairs: Vec::new() }; 32];
-    for (i, rank) in (1..).zip(disturbed(random, LIMITS.hours, 30)) {
-        all_hours[numbers[rank as usize]].begin = i * era;
-    }
-    for (i, rank) in (1 + LIMITS.hours..).zip(disturbed(random, LIMITS.hours, 6)) {
-        all_hours[numbers[31 - rank as usize]].end = i * era;
-    }
+    let numbers = longest_first();
+    let begins = disturbed(random, LIMITS.hours, 30);
+    let ends = disturbed(random, LIMITS.hours, 6);
+    let begins = begins.into_iter().map(|rank| numbers[rank as usize]);
+    let ends = ends.into_iter().map(|rank| numbers[31 - rank as usize]);
+    let eras = begins.chain(ends).collect();
     // The pairs of one record come at even distances, a little disturbed, and hold for three
     // quarters of them. All edges in their order are the edges of the cells.
     let mut edges = Vec::new();
@@ -124,14 +144,11 @@ pub fn most_sets_rota(random: &mut Random) -> Rota {
         }
     }
     edges.sort();
-    let mut is_open = [false; 32];
-    for (i, (_, number)) in (1..).zip(edges) {
-        let (edge, pairs) = ((i * cell) as u16, &mut all_hours[number].pairs);
-        match pairs.last_mut() {
-            Some(pair) if is_open[number] => pair.length = edge - pair.offset,
-            _ => pairs.push(Pair { offset: edge, length: 0 }),
-        }
-        is_open[number] = !is_open[number];
-    }
-    with_roles(all_hours, LIMITS.roles, Sets::Many)
+    (eras, edges.into_iter().map(|(_, number)| number).collect())
+}
+
+/// Everything at its limit, and more derived roles than by equal shares.
+pub fn most_sets_rota(random: &mut Random) -> Rota {
+    let (eras, cells) = most_sets_cuts(random);
+    with_roles(cut_hours(32, &eras, &cells), LIMITS.roles, Sets::Many)
 }

@@ -5,16 +5,18 @@ mod calls;
 mod fine;
 mod hours;
 mod rota;
+mod sized;
 mod table;
 mod weekly;
 
 pub use calls::{Edges, call, state};
-pub use fine::{Sets, fine_rota, most_sets_rota};
+pub use fine::{Sets, cut_hours, fine_rota, longest_first, most_sets_cuts, most_sets_rota};
 pub use hours::{hours, hours_fault, room};
 pub use rota::{
     EDGE_SIZES, LIMITS, Sizes, damaged_rota, edge_sizes, granting_rota, rota, rota_minute, rota_of,
     small_rota, with_unused_hours,
 };
+pub use sized::rota_with_table;
 pub use table::{damaged_table, huge_counts, small_table, table, table_minute};
 pub use weekly::weekly_rota;
 
