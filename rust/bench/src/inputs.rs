@@ -1,8 +1,8 @@
-//! The inputs: the small rota, a week as an organization has it, and the largest.
+//! The inputs: the small rota, a week as an organization has it, the largest, and the worst.
 
-use cases::data;
 use cases::generate::{Sets, fine_rota, most_sets_rota, rota_minute, weekly_rota};
 use cases::random::Random;
+use cases::{data, worst};
 use comparison::ffi;
 use reference::rota::Rota;
 use reference::set;
@@ -80,7 +80,7 @@ fn entries_alone() -> Table {
 pub fn inputs() -> Vec<Input> {
     let mut random = Random::new(2);
     let small = Rota::parse(&data::small_rota()).expect("well formed");
-    vec![
+    let mut inputs = vec![
         Input::new("small", small),
         Input::new("weekly", weekly_rota()),
         // 17 eras and 113 cells for 2 roles.
@@ -90,6 +90,9 @@ pub fn inputs() -> Vec<Input> {
         // has more rows.
         Input::new("most rows", fine_rota(&mut random, 32, 8, 32, Sets::Same)),
         Input::new("most rows, most sets", most_sets_rota(&mut random)),
-        Input::of_table("derived roles alone", &entries_alone(), |random| random.below(END)),
-    ]
+    ];
+    inputs.extend(worst::cuts().into_iter().map(|(name, cut)| Input::new(name, cut.rota())));
+    inputs
+        .push(Input::of_table("derived roles alone", &entries_alone(), |random| random.below(END)));
+    inputs
 }

@@ -13,9 +13,11 @@ pub struct Times {
 /// How long one round of calls is to take: short, so that some round is not interrupted.
 const ROUND: Duration = Duration::from_millis(1);
 /// How long the rounds of one function are to take together, and how many there are at least:
-/// so many that some are quiet even where others wait for a core.
+/// so many that some are quiet even where others wait for a core. What takes longer than a second
+/// is called twice.
 const ALL: Duration = Duration::from_millis(240);
 const LEAST_ROUNDS: u32 = 5;
+const LONG: Duration = Duration::from_secs(1);
 
 /// A function with the number of calls that make a round, and its quickest round.
 struct Timed<F> {
@@ -32,7 +34,7 @@ impl<T, F: FnMut(usize) -> T> Timed<F> {
         loop {
             for _ in 0..3 {
                 timed.round();
-                if timed.best < ROUND {
+                if timed.best < ROUND || timed.best > LONG {
                     break;
                 }
             }
@@ -64,7 +66,8 @@ impl<T, F: FnMut(usize) -> T> Timed<F> {
 pub fn time<T, U>(proved: impl FnMut(usize) -> T, tuned: impl FnMut(usize) -> U) -> Times {
     let (mut proved, mut tuned) = (Timed::new(proved), Timed::new(tuned));
     let mut rounds = 0;
-    while rounds < LEAST_ROUNDS || proved.best.max(tuned.best) * rounds < ALL {
+    let least = if proved.best.max(tuned.best) > LONG { 1 } else { LEAST_ROUNDS };
+    while rounds < least || proved.best.max(tuned.best) * rounds < ALL {
         proved.round();
         tuned.round();
         rounds += 1;

@@ -1,0 +1,136 @@
+//! Searches for rotas that take the proved code long, by hill climbing: a changed rota is kept
+//! where it takes longer. It starts from each rota of `cases::worst` in turn, prints what each
+//! comes to, and stores the worst of all where it is told to.
+//!
+//! What is timed is one of: rewrite, into 40 MB; refuse, the same into 64 KiB, where that gives
+//! 20; read, question, advance, on the rota; table-read, table-question, table-advance, on its
+//! table.
+
+use std::hint::black_box;
+use std::time::{Duration, Instant};
+
+use cases::case::seed;
+use cases::random::Random;
+use cases::worst::{self, Cut};
+use comparison::ffi;
+use reference::END;
+use reference::service::{Call, State};
+
+/// Room for every table of a rota: 1,067,040 derived roles and as many rows are under 36 MB.
+const LARGE: usize = 40_000_000;
+const SMALL: usize = 65_536;
+
+/// Minutes in several eras and cells, for what is asked of a rota or of a table.
+fn minutes() -> impl Iterator<Item = u32> {
+    (1..8).map(|i| END / 8 * i + 5_003 * i)
+}
+
+fn questions(ask: impl Fn(u32, u32, u32) -> ffi::rota::Answered) {
+    for (i, minute) in (0..).zip(minutes()) {
+        black_box(ask(9 * i, 9 * i, minute));
+    }
+}
+
+fn advances(call: impl Fn(State, Call) -> ffi::service::Stepped) {
+    for minute in minutes() {
+        black_box(call(State { now: 0, open: u64::MAX }, Call::Advance(minute)));
+    }
+}
+
+struct Search {
+    what: String,
+    area: Vec<u8>,
+}
+
+impl Search {
+    /// Makes what is timed of a rota, and gives the seconds of the quickest of so many calls.
+    fn seconds(&mut self, rota: &[u8], times: u32) -> f64 {
+        let area = &mut self.area[..];
+        let table: &[u8] = if self.what.starts_with("table") {
+            let written = tuned::rewriting::rewrite(rota, area).expect("a table has room");
+            &area[..written.length]
+        } else {
+            &[]
+        };
+        let on_rota = |state, call| ffi::service::on_rota(rota, state, call);
+        let on_table = |state, call| ffi::service::on_table(table, state, call);
+        match self.what.as_str() {
+            "read" => quickest(times, || ffi::rota::read(rota)),
+            "question" => {
+                quickest(times, || questions(|u, p, t| ffi::rota::question(rota, u, p, t)))
+            }
+            "advance" => quickest(times, || advances(on_rota)),
+            "table-read" => quickest(times, || ffi::table::read(table)),
+            "table-question" => {
+                quickest(times, || questions(|u, p, t| ffi::table::question(table, u, p, t)))
+            }
+            "table-advance" => quickest(times, || advances(on_table)),
+            "rewrite" => quickest(times, || {
+                assert_eq!(ffi::rewriting::rewrite(rota, &mut self.area).refusal, 0);
+            }),
+            "refuse" => {
+                if ffi::rewriting::rewrite(rota, &mut self.area[..SMALL]).refusal != 20 {
+                    return 0.0;
+                }
+                quickest(times, || ffi::rewriting::rewrite(rota, &mut self.area[..SMALL]))
+            }
+            other => panic!("nothing of that name is timed: {other}"),
+        }
+    }
+
+    /// Climbs from a rota for so long. A time that seems longer is taken again, for both.
+    fn climb(&mut self, start: Cut, random: &mut Random, time: Duration) -> (Cut, f64) {
+        let (mut best, begun) = (start, Instant::now());
+        let mut longest = self.seconds(&best.rota().encode(), 3);
+        while begun.elapsed() < time {
+            let changed = best.changed(random);
+            let bytes = changed.rota().encode();
+            if self.seconds(&bytes, 1) <= longest {
+                continue;
+            }
+            longest = longest.min(self.seconds(&best.rota().encode(), 3));
+            let again = self.seconds(&bytes, 3);
+            if again > longest {
+                (best, longest) = (changed, again);
+            }
+        }
+        (best, longest)
+    }
+}
+
+/// Seconds of one call, the quickest of so many rounds; a round is one call, or some milliseconds.
+fn quickest<T>(rounds: u32, mut call: impl FnMut() -> T) -> f64 {
+    let mut best = f64::MAX;
+    for _ in 0..rounds {
+        let (start, mut calls) = (Instant::now(), 0);
+        while calls == 0 || start.elapsed() < Duration::from_millis(2) {
+            black_box(call());
+            calls += 1;
+        }
+        best = best.min(start.elapsed().as_secs_f64() / f64::from(calls));
+    }
+    best
+}
+
+fn main() {
+    let mut arguments = std::env::args().skip(1);
+    let what = arguments.next().expect("what to time");
+    let seconds = arguments.next().map_or(10, |text| text.parse().expect("seconds for each"));
+    let place = arguments.next();
+    let mut random = Random::new(seed());
+    let mut search = Search { what, area: vec![0; LARGE] };
+    let mut worst_of_all = (Vec::new(), 0.0);
+    for (name, start) in worst::cuts() {
+        let before = search.seconds(&start.rota().encode(), 3);
+        let (cut, longest) = search.climb(start, &mut random, Duration::from_secs(seconds));
+        let bytes = cut.rota().encode();
+        println!("{}: {name}, {:.1} µs, then {:.1} µs", search.what, before * 1e6, longest * 1e6);
+        if longest > worst_of_all.1 {
+            worst_of_all = (bytes, longest);
+        }
+    }
+    println!("{}: {:.1} µs, {} bytes", search.what, worst_of_all.1 * 1e6, worst_of_all.0.len());
+    if let Some(place) = place {
+        std::fs::write(&place, &worst_of_all.0).expect("the rota is stored");
+    }
+}
