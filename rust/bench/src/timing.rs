@@ -16,7 +16,7 @@ const ROUND: Duration = Duration::from_millis(1);
 /// so many that some are quiet even where others wait for a core. What takes longer than a second
 /// is called twice.
 const ALL: Duration = Duration::from_millis(240);
-const LEAST_ROUNDS: u32 = 5;
+const LEAST_ROUNDS: u32 = 15;
 const LONG: Duration = Duration::from_secs(1);
 
 /// A function with the number of calls that make a round, and its quickest round.

@@ -25,7 +25,8 @@ impl Parts {
     /// What lies between neighbouring values of 0, `limit` and both ends of all that is covered:
     /// where hours hold from and to, and their number. What the same hours cover does not touch.
     fn new<I: Iterator<Item = (u32, u32, u32)>>(limit: u32, covered: impl Fn() -> I) -> Parts {
-        let mut cuts = vec![0, limit];
+        let mut cuts = Vec::with_capacity(2 + 2 * covered().count());
+        cuts.extend([0, limit]);
         cuts.extend(covered().flat_map(|(from, to, _)| [from, to]));
         cuts.sort_unstable();
         cuts.dedup();
