@@ -246,7 +246,7 @@ unfolding countBelow
 count-same zero f g e = refl
 count-same (suc k) f g e = ap₂ (λ (x y : ℕ). x + y) (count-same k f g (λ i l. e i (omega arith))) (ap one (e k (omega arith)))
 
-count-low : (k : ℕ) (f : ℕ → Bool) → countBelow (suc k) f ≡ one (f 0) + countBelow k (λ (i : ℕ). f (suc i))
+pub count-low : (k : ℕ) (f : ℕ → Bool) → countBelow (suc k) f ≡ one (f 0) + countBelow k (λ (i : ℕ). f (suc i))
 unfolding countBelow
 count-low zero f = omega arith
 count-low (suc k) f = let ih = count-low k f in omega arith

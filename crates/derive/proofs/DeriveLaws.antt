@@ -16,10 +16,11 @@ use Rattle.table.specs.Table.{Entry}
 use Rattle.derivation.specs.Rewriting.{same}
 use Rattle.derivation.proofs.TableDistinct.{add-length}
 use Rattle.derive.specs.declared.Role.{Role}
+use Rattle.index.specs.Entries.{entriesWith, entriesTo}
+use Rattle.index.proofs.EntryLaws.{entries-length}
 use Rattle.derive.specs.declared.Sets.{Sets}
-use Rattle.derive.specs.Role.{setsIn, keptWith, keptBy}
-use Rattle.derive.specs.Derive.{entriesWith, entriesTo, nextEntries, markOf, entriesFrom, marksFrom, rowsIn, grown, Marked, Derived, DerivedTo}
-use Rattle.derive.proofs.MarkLaws.{entries-length}
+use Rattle.derive.specs.Role.{keptWith, keptBy, Gathered}
+use Rattle.derive.specs.Derive.{nextEntries, markOf, entriesFrom, marksFrom, rowsIn, grown, Marked, Derived, DerivedTo}
 
 -- ---- one mask more
 
@@ -110,14 +111,14 @@ row-no rows m h = rw (le-ltb 0 m h) (omega arith)
 
 module _ (role : Role) (n : ℕ) (masks us₀ ps₀ marks₀ us ps marks : List ℕ) (d rows i : ℕ) (hm : n ≤ length masks) (hk : n ≤ length marks₀)
     (s : Deriving role n masks us₀ ps₀ marks₀ us ps marks d rows i) where
-  pub deriving-turn : (x : Sets) (us′ ps′ : List ℕ) (m d′ rows′ : ℕ) → i < n → x ≡ setsIn (role .on) (role .users) (role .permissions) (getD masks i 0)
+  pub deriving-turn : (x : Sets) (us′ ps′ : List ℕ) (m d′ rows′ : ℕ) → i < n → Gathered (role .on) (role .users) (role .permissions) (getD masks i 0) x
       → Marked (role .source) (keptWith (role .source) x) d us ps us′ ps′ m → length us′ ≡ length us → length ps′ ≡ length ps
       → d′ ≡ grown d m → rows′ ≡ rows + pick (ltb 0 m) 1 0
       → Deriving role n masks us₀ ps₀ marks₀ us′ ps′ (set marks i m) d′ rows′ (i + 1)
   unfolding keptBy
   deriving-turn x us′ ps′ m d′ rows′ hi ex k lu lp ed er =
       let es = entriesTo (role .source) d us ps in
-      let eg : keptWith (role .source) x ≡ keptBy role (getD masks i 0) = ap (keptWith (role .source)) ex in
+      let eg : keptWith (role .source) x ≡ keptBy role (getD masks i 0) = ex .kept (role .source) in
       let em : m ≡ markOf es (keptBy role (getD masks i 0)) = k .marked ∙ ap (markOf es) eg in
       let ee : entriesTo (role .source) d′ us′ ps′ ≡ nextEntries es (keptBy role (getD masks i 0))
       = ap (λ (q : ℕ). entriesTo (role .source) q us′ ps′) ed ∙ k .entries-then ∙ ap (nextEntries es) eg in

@@ -1,6 +1,5 @@
-pub mod FindLaws
 pub mod UnionLaws
-pub mod IndexLaws
+pub mod SetsLaws
 pub mod MarkLaws
 pub mod DeriveLaws
 pub mod RoleLaws

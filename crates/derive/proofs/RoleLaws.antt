@@ -1,6 +1,5 @@
 -- A role by slots gives in a field with a mask what the rota's rows give.
 --     slot-small      a reference that names a record has a slot below 33
---     union-lt        a union is a set of the numbers 0 to 63
 --     kept-by         the law itself
 -- Assumes nothing.
 use Prim.Native.Nat.{ℕ, zero, suc, _^_, _≤_, _<_}
@@ -29,6 +28,7 @@ use Rattle.rota.specs.Rota.{Row, Rota, roleHours}
 use Rattle.rota.specs.RotaWell.{RefWell, RowWell, RotaWell}
 use Rattle.derivation.specs.Masks.{slotOf, assignedIn, usersIn, permissionsIn, keptIn}
 use Rattle.derive.specs.Role.{unionOf, setsMade, setsIn, keptWith, keptBy, atSlot, bySlot, roleOf}
+use Rattle.derive.proofs.UnionLaws.{has-union-of, union-lt}
 
 pub slot-small : (h : ℕ) (ref : HoursRef) → h ≤ 32 → RefWell h ref → slotOf ref < 33
 unfolding slotOf dangling
@@ -83,26 +83,7 @@ module _ (m : ℕ) where
       ∙ any-or 33 (λ j. has m j && (a w && eqb (slotOf (w .hours)) j)) (λ j. has m j && any (λ (v : Row). a v && eqb (slotOf (v .hours)) j) rows)
       ∙ ap₂ _||_ (with-test (a w) (slotOf (w .hours)) (s .0)) (by-rows a rows (s .1))
 
-  -- ---- the union
-  has-union-of : (sets : List ℕ) (k x : ℕ) → x < 64 → has (unionOf sets m k) x ≡ anyBelow k (λ j. has m j && has (getD sets j 0) x)
-  unfolding unionOf anyBelow
-  has-union-of sets zero x l = has-none x
-  has-union-of sets (suc k) x l = go (has m k) (has-union-of sets k x l)
-    where
-      go : (b : Bool) → has (unionOf sets m k) x ≡ anyBelow k (λ j. has m j && has (getD sets j 0) x)
-          → has (pick b (union (unionOf sets m k) (getD sets k 0)) (unionOf sets m k)) x ≡ (anyBelow k (λ j. has m j && has (getD sets j 0) x) || (b && has (getD sets k 0) x))
-      go true h = has-union (unionOf sets m k) (getD sets k 0) x l ∙ ap (λ (b : Bool). b || has (getD sets k 0) x) h
-      go false h = h ∙ sym (or-false (anyBelow k (λ j. has m j && has (getD sets j 0) x)))
-
-  pub union-lt : (sets : List ℕ) (k : ℕ) → unionOf sets m k < 2 ^ 64
-  unfolding unionOf union
-  union-lt sets zero = pow-pos 64
-  union-lt sets (suc k) = go (has m k) (union-lt sets k)
-    where
-      go : (b : Bool) → unionOf sets m k < 2 ^ 64 → pick b (union (unionOf sets m k) (getD sets k 0)) (unionOf sets m k) < 2 ^ 64
-      go true h = setOf-lt 64 (λ j. has (unionOf sets m k) j || has (getD sets k 0) j)
-      go false h = h
-
+  -- ---- what a role has by slots, and by rows
   pulled : (a : Bool) (f : ℕ → Bool) → anyBelow 33 (λ j. has m j && (a && f j)) ≡ (a && anyBelow 33 (λ j. has m j && f j))
   pulled true f = refl
   pulled false f = any-none-of 33 (λ j. has m j && false) (λ j l. and-false (has m j))
@@ -113,7 +94,6 @@ module _ (m : ℕ) where
   past top i a [] l n = refl
   past top i a (w ∷ rows) l n = rw (ne-eqb (w .number) i (λ e. omega (arith, n .0))) (past top i a rows l (n .1))
 
-  -- what a role has by slots, and by rows
   in-range : (top i r : ℕ) (rows : List Row) → i < 64 → All (λ (w : Row). w .number < top) rows → (b : Bool) → ltb i top ≡ b
       → (ltb i 64 && assignedIn m rows i r) ≡ (b && assignedIn m rows i r)
   unfolding assignedIn
@@ -128,10 +108,10 @@ module _ (m : ℕ) where
       → unionOf (bySlot rows r) m 33 ≡ setOf top (λ x. assignedIn m rows x r)
   unfolding bySlot atSlot
   union-rows top rows r l n s =
-      ext 64 (unionOf (bySlot rows r) m 33) (setOf top (λ x. assignedIn m rows x r)) (union-lt (bySlot rows r) 33)
+      ext 64 (unionOf (bySlot rows r) m 33) (setOf top (λ x. assignedIn m rows x r)) (union-lt m (bySlot rows r) 33)
       (lt-of-lt-of-le (setOf-lt top (λ x. assignedIn m rows x r)) (pow-mono l))
       (λ i q.
-      has-union-of (bySlot rows r) 33 i q
+      has-union-of m (bySlot rows r) 33 i q
       ∙ any-same 33 (λ j. has m j && has (getD (bySlot rows r) j 0) i)
       (λ j. has m j && (ltb i 64 && any (λ (w : Row). eqb (w .number) i && eqb (w .role) r && eqb (slotOf (w .hours)) j) rows))
       (λ j k. ap (λ (b : Bool). has m j && b)

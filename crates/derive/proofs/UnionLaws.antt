@@ -1,19 +1,64 @@
--- The union over a mask, by the slots of the mask that are in use.
+-- The union over a mask: its members, and the slots of the mask that are in use, of which alone it is made.
 -- Assumes nothing.
 use Prim.Native.Nat.{ℕ, zero, suc, _+_, _-_, _/_, _^_, _≤_, _<_}
-use mathlib.Core.Path.{_≡_, refl, sym, _∙_, ap}
-use mathlib.Core.Bool.{Bool, true, false, not, _&&_}
+use mathlib.Core.Path.{_≡_, refl, sym, _∙_, ap, ap₂, subst}
+use mathlib.Core.Bool.{Bool, true, false, not, _&&_, _||_, or-false}
+use mathlib.Core.Logic.{⊎-elim}
 use mathlib.Core.List.{List}
 use native.Mathlib.Omega.{arith}
+use native.Mathlib.Numerals.{add-one}
 use lib.Dec.{eqb}
 use lib.ListN.{getD}
+use lib.Pow.{pow-pos}
 use borrow.Author.Tests.{eq-eqb, ne-eqb, eqb-true}
-use Rattle.ground.proofs.BoolLaws.{clash, and-left}
+use Rattle.ground.specs.Choice.{pick}
+use Rattle.ground.specs.Search.{anyBelow}
+use Rattle.ground.proofs.BoolLaws.{clash, and-left, and-right, and-both, lt-or-le}
+use Rattle.ground.proofs.SearchLaws.{any-out, any-stop}
 use Rattle.bitset.specs.Sets.{has, setOf, union, intersection, Lowest}
-use Rattle.bitset.proofs.SetLaws.{has-none, has-below, has-intersection, has-shifted, union-nothing}
+use Rattle.bitset.proofs.SetLaws.{has-none, has-past, has-below, has-union, has-intersection, has-shifted, setOf-lt, union-nothing}
+use Rattle.index.specs.Tree.{Within}
 use Rattle.derive.specs.Role.{inUse, usedIn, unionOf}
-use Rattle.derive.proofs.FindLaws.{union-with, union-without}
-use Rattle.derive.proofs.RoleLaws.{union-lt}
+
+-- ---- one slot more
+
+pub union-none : (sets : List ℕ) (m : ℕ) → 0 ≡ unionOf sets m 0
+unfolding unionOf
+union-none sets m = refl
+
+module _ (sets : List ℕ) (m k x : ℕ) (e : x ≡ unionOf sets m k) where
+  union-step : (b : Bool) → has m k ≡ b → pick b (union x (getD sets k 0)) x ≡ unionOf sets m (k + 1)
+  unfolding unionOf
+  union-step b f =
+      ap₂ (λ (c : Bool) (y : ℕ). pick c (union y (getD sets k 0)) y) (sym f) e ∙ ap (unionOf sets m) (sym (add-one k))
+
+  union-with : (y : ℕ) → has m k ≡ true → y ≡ union x (getD sets k 0) → y ≡ unionOf sets m (k + 1)
+  union-with y f q = q ∙ union-step true f
+
+  union-without : (y : ℕ) → has m k ≡ false → y ≡ x → y ≡ unionOf sets m (k + 1)
+  union-without y f q = q ∙ union-step false f
+
+-- ---- its members
+
+module _ (m : ℕ) where
+  pub has-union-of : (sets : List ℕ) (k x : ℕ) → x < 64 → has (unionOf sets m k) x ≡ anyBelow k (λ j. has m j && has (getD sets j 0) x)
+  unfolding unionOf anyBelow
+  has-union-of sets zero x l = has-none x
+  has-union-of sets (suc k) x l = go (has m k) (has-union-of sets k x l)
+    where
+      go : (b : Bool) → has (unionOf sets m k) x ≡ anyBelow k (λ j. has m j && has (getD sets j 0) x)
+          → has (pick b (union (unionOf sets m k) (getD sets k 0)) (unionOf sets m k)) x ≡ (anyBelow k (λ j. has m j && has (getD sets j 0) x) || (b && has (getD sets k 0) x))
+      go true h = has-union (unionOf sets m k) (getD sets k 0) x l ∙ ap (λ (b : Bool). b || has (getD sets k 0) x) h
+      go false h = h ∙ sym (or-false (anyBelow k (λ j. has m j && has (getD sets j 0) x)))
+
+  pub union-lt : (sets : List ℕ) (k : ℕ) → unionOf sets m k < 2 ^ 64
+  unfolding unionOf union
+  union-lt sets zero = pow-pos 64
+  union-lt sets (suc k) = go (has m k) (union-lt sets k)
+    where
+      go : (b : Bool) → unionOf sets m k < 2 ^ 64 → pick b (union (unionOf sets m k) (getD sets k 0)) (unionOf sets m k) < 2 ^ 64
+      go true h = setOf-lt 64 (λ j. has (unionOf sets m k) j || has (getD sets k 0) j)
+      go false h = h
 
 -- ---- the slots in use
 
@@ -73,3 +118,28 @@ module _ (sets : List ℕ) (m s : ℕ) (es : s ≡ intersection m (usedIn sets))
       union-turn y h q =
           union-with sets m (n + r) x (e ∙ skip r n (omega arith) (λ j l. sym (has-shifted s n j) ∙ low .below j l)) y
           (and-left (has m (n + r)) (inUse sets (n + r)) (sym (slot-at (n + r) h) ∙ sym (has-shifted s n r) ∙ low .member)) q
+
+-- ---- no slot, and all
+
+-- where no slot of the mask is in use
+pub union-empty : (sets : List ℕ) (m s : ℕ) → s ≡ intersection m (usedIn sets) → s ≡ 0 → 0 ≡ unionOf sets m 33
+union-empty sets m s e z = union-done sets m s e 0 0 (union-none sets m) (omega arith) (omega arith)
+
+-- what a mask takes is among what all slots in use have
+pub union-within : (sets : List ℕ) (m : ℕ) → Within (unionOf sets m 33) (unionOf sets (usedIn sets) 33)
+union-within sets m = record { fits = union-lt m sets 33; members = λ j e. there j (small j e) e }
+  where
+    small : (j : ℕ) → has (unionOf sets m 33) j ≡ true → j < 64
+    small j e = ⊎-elim (λ (h : j < 64). h) (λ (h : 64 ≤ j). clash (has (unionOf sets m 33) j) e (has-past 64 (unionOf sets m 33) j (union-lt m sets 33) h)) (lt-or-le j 64)
+
+    there : (j : ℕ) → j < 64 → has (unionOf sets m 33) j ≡ true → has (unionOf sets (usedIn sets) 33) j ≡ true
+    there j h e =
+        let k = any-out 33 (λ i. has m i && has (getD sets i 0) j) (sym (has-union-of m sets 33 j h) ∙ e) in
+        let q = and-right (has m (k .0)) (has (getD sets (k .0) 0) j) (k .2) in
+        has-union-of (usedIn sets) sets 33 j h
+        ∙ any-stop (λ i. has (usedIn sets) i && has (getD sets i 0) j) 33 (k .0) (k .1)
+        (and-both (has (usedIn sets) (k .0)) (has (getD sets (k .0) 0) j)
+        (used-at sets (k .0) (k .1) ∙ in-use sets (k .0) (λ z. clash (has 0 j) (ap (λ (y : ℕ). has y j) (sym z) ∙ q) (has-none j))) q)
+
+pub within-all : {x : ℕ} (sets : List ℕ) (s a : ℕ) → s ≡ usedIn sets → a ≡ unionOf sets s 33 → Within x (unionOf sets (usedIn sets) 33) → Within x a
+within-all {x} sets s a es ea w = subst (Within x) (sym (ea ∙ ap (λ (m : ℕ). unionOf sets m 33) es)) w

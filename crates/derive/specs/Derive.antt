@@ -7,22 +7,12 @@ use lib.Dec.{ltb, eqb}
 use lib.ListN.{length, take}
 use Rattle.ground.specs.Choice.{pick}
 use Rattle.table.specs.Table.{Entry}
-use Rattle.table.specs.Answers.{entryMade}
 use Rattle.derivation.specs.Distinct.{addNew, placeOf}
 use Rattle.derivation.specs.Rewriting.{same}
+use Rattle.index.specs.Entries.{entriesTo}
 use Rattle.derive.specs.declared.Role.{Role}
 use Rattle.derive.specs.declared.Count.{Count}
 use Rattle.derive.specs.Role.{keptBy}
-
--- sets side by side as entries of a source
-unfoldable pub entriesWith : ℕ → List ℕ → List ℕ → List Entry
-entriesWith source [] ps = []
-entriesWith source (u ∷ us) [] = []
-entriesWith source (u ∷ us) (p ∷ ps) = entryMade source u p ∷ entriesWith source us ps
-
--- the first n of both
-abbrev pub entriesTo : ℕ → ℕ → List ℕ → List ℕ → List Entry
-entriesTo source n us ps = entriesWith source (take n us) (take n ps)
 
 -- the entries after a field, and the field's mark: 0 where it is not kept, else one more than the place of its entry
 unfoldable pub nextEntries : List Entry → Option Entry → List Entry
@@ -57,14 +47,14 @@ pub record Marked (source : ℕ) (kept : Option Entry) (d : ℕ) (us ps us′ ps
   pub small : m ≤ d + 1
   pub entries-then : entriesTo source (grown d m) us′ ps′ ≡ nextEntries (entriesTo source d us ps) kept
 
--- the lists have n places, and a mark fits two bytes
+-- the lists have n places, the links two for each, and a mark fits two bytes
 pub record Room (n : ℕ) (masks us ps marks links : List ℕ) : Type 0 where
   pub few : n ≤ 33345
   pub for-masks : n ≤ length masks
   pub for-users : n ≤ length us
   pub for-permissions : n ≤ length ps
   pub for-marks : n ≤ length marks
-  pub for-links : n ≤ length links
+  pub for-links : n + n ≤ length links
 
 abbrev pub roleMade : ℕ → ℕ → List ℕ → List ℕ → Role
 roleMade source on users permissions = record { source = source; on = on; users = users; permissions = permissions }

@@ -1,3 +1,2 @@
 pub mod Role
-pub mod Index
 pub mod Derive

@@ -1,5 +1,6 @@
 -- A role by hours: what it has in a field with a given mask, and the role that a rota's rows make.
 use Prim.Native.Nat.{ℕ, zero, suc}
+use mathlib.Core.Path.{_≡_}
 use mathlib.Core.Bool.{Bool, not, _&&_}
 use mathlib.Core.Option.{Option, none, some}
 use mathlib.Core.List.{List}
@@ -12,6 +13,7 @@ use Rattle.bitset.specs.Sets.{has, setOf, union}
 use Rattle.rota.specs.Rota as rota
 use Rattle.table.specs.Table.{Entry}
 use Rattle.derivation.specs.Masks.{slotOf}
+use Rattle.index.specs.Tree.{Within}
 use Rattle.derive.specs.declared.Role.{Role}
 use Rattle.derive.specs.declared.Sets.{Sets}
 
@@ -40,6 +42,12 @@ entryOf source x = record { source = source; users = x .users; permissions = x .
 -- a field is kept where neither set is empty
 abbrev pub keptWith : ℕ → Sets → Option Entry
 keptWith source x = pick (not (eqb (x .users) 0) && not (eqb (x .permissions) 0)) (some (entryOf source x)) none
+
+-- two sets that keep a field with mask m as the role's own do, out of all its users and all its permissions
+pub record Gathered (on : ℕ) (users permissions : List ℕ) (m : ℕ) (x : Sets) : Type 0 where
+  pub kept : (source : ℕ) → keptWith source x ≡ keptWith source (setsIn on users permissions m)
+  pub users-within : Within (x .users) (unionOf users (usedIn users) 33)
+  pub permissions-within : Within (x .permissions) (unionOf permissions (usedIn permissions) 33)
 
 -- what a field with mask m gives for the role
 unfoldable pub keptBy : Role → ℕ → Option Entry

@@ -1,13 +1,10 @@
 // One role's derived roles: the distinct pairs of sets that it has in the fields, in the order in which they come, and which one each field has.
 ghost use mathlib.Core.Path.{_≡_};
 ghost use Prim.Native.Nat.{_+_, _<_, _≤_};
-ghost use lib.ListN.{length, set};
-ghost use Rattle.table.specs.Answers.{entryMade};
-ghost use Rattle.derivation.specs.Distinct.{placeOf};
-ghost use Rattle.derivation.specs.Rewriting.{same};
-ghost use Rattle.derive.specs.Role.{usedIn, unionOf, setsIn, keptWith};
-ghost use Rattle.derive.specs.Index.{bucketOf, Indexed, Absent};
-ghost use Rattle.derive.specs.Derive.{entriesTo, grown, Marked, Room, DerivedTo};
+ghost use lib.ListN.{length};
+ghost use Rattle.index.specs.Tree.{Within, Indexed};
+ghost use Rattle.derive.specs.Role.{usedIn, unionOf, setsMade, keptWith, Gathered};
+ghost use Rattle.derive.specs.Derive.{grown, Marked, Room, DerivedTo};
 
 // A role: its number, the slot of the hours in which it is enabled, and its users and permissions by slot. Slot k is hours record k, 32 is always.
 pub struct Role {
@@ -65,7 +62,8 @@ fn union_in(sets: &[u64; 33], used: u64, mask: u64) -> u64
     all
 }
 
-// What a role that is enabled in slot `on` has in a field with this mask; nothing where it is not enabled.
+// What a role that is enabled in slot `on` has in a field with this mask; nothing where it is not enabled, or has no user or no permission. That is
+// seen from the slots alone, before any union is made.
 fn sets_in(
     on: u32,
     users: &[u64; 33],
@@ -75,76 +73,31 @@ fn sets_in(
     mask: u64,
 ) -> Sets
     requires { ⌜ (on < 64) × («user_slots» ≡ usedIn (now users)) × («permission_slots» ≡ usedIn (now permissions)) ⌝ }
-    ensures { λ r. ⌜ r ≡ setsIn on (now (users .entry)) (now (permissions .entry)) mask ⌝ }
+    ensures { λ r. ⌜ Gathered on (now (users .entry)) (now (permissions .entry)) mask r ⌝ }
 {
+    if bitset::both(mask, user_slots) == 0 {
+        return no_sets();
+    }
+    if bitset::both(mask, permission_slots) == 0 {
+        return no_sets();
+    }
     if bitset::contains(mask, on) {
         Sets {
             users: union_in(users, user_slots, mask),
             permissions: union_in(permissions, permission_slots, mask),
         }
     } else {
-        Sets {
-            users: 0,
-            permissions: 0,
-        }
+        no_sets()
     }
 }
 
-// The bucket of two sets, in the index of the entries.
-fn bucket(u: u64, p: u64) -> usize
-    ensures { λ b. ⌜ (b ≡ bucketOf u p) × (b < 512) ⌝ }
+fn no_sets() -> Sets
+    ensures { λ r. ⌜ r ≡ setsMade 0 0 ⌝ }
 {
-    (((u % 8191) * 31 + p % 8191) % 512) as usize
-}
-
-// Where the two sets stand among the first n of us and ps, or n. Only the entries of their bucket are looked at, from the newest on.
-fn find(
-    source: u8,
-    us: &[u64],
-    ps: &[u64],
-    heads: &[u16; 512],
-    links: &[u16],
-    n: usize,
-    u: u64,
-    p: u64,
-) -> usize
-    requires { ⌜ (n ≤ length (now us)) × (n ≤ length (now ps)) × (n ≤ length (now links)) × Indexed n (now us) (now ps) (now heads) (now links) ⌝ }
-    ensures { λ k. ⌜ k ≡ placeOf same (entryMade source u p) (entriesTo source n (now (us .entry)) (now (ps .entry))) ⌝ }
-{
-    let b = bucket(u, p);
-    let mut c = heads[b] as usize;
-    while 0 < c {
-        let k = c - 1;
-        if us[k] == u {
-            if ps[k] == p {
-                return k;
-            }
-        }
-        c = links[k] as usize;
+    Sets {
+        users: 0,
+        permissions: 0,
     }
-    n
-}
-
-// Two sets that are not among the first d of us and ps come next, and are the newest of their bucket.
-fn add(
-    us: &mut [u64],
-    ps: &mut [u64],
-    heads: &mut [u16; 512],
-    links: &mut [u16],
-    d: usize,
-    u: u64,
-    p: u64,
-)
-    requires { ⌜ (d < length (now us)) × (d < length (now ps)) × (d < length (now links)) × (d < 33345) ⌝ }
-    requires { ⌜ Indexed d (now us) (now ps) (now heads) (now links) × Absent d (now us) (now ps) u p ⌝ }
-    ensures { λ _. ⌜ (now (us .exit) ≡ set (now (us .entry)) d u) × (now (ps .exit) ≡ set (now (ps .entry)) d p)
-        × Indexed (d + 1) (now (us .exit)) (now (ps .exit)) (now (heads .exit)) (now (links .exit)) ⌝ }
-{
-    let b = bucket(u, p);
-    us[d] = u;
-    ps[d] = p;
-    links[d] = heads[b];
-    heads[b] = (d + 1) as u16;
 }
 
 // The mark of a field: 0 where the role has nothing there, else one more than the place of its two sets, which are among the first d or come next.
@@ -153,14 +106,15 @@ fn mark_field(
     x: Sets,
     us: &mut [u64],
     ps: &mut [u64],
-    heads: &mut [u16; 512],
     links: &mut [u16],
+    a: u64,
+    b: u64,
     d: usize,
 ) -> usize
-    requires { ⌜ (d < length (now us)) × (d < length (now ps)) × (d < length (now links)) × (d < 33345) ⌝ }
-    requires { ⌜ Indexed d (now us) (now ps) (now heads) (now links) ⌝ }
+    requires { ⌜ (d < length (now us)) × (d < length (now ps)) × (d + d + 1 < length (now links)) × (d < 33345) ⌝ }
+    requires { ⌜ Indexed d (now us) (now ps) (now links) a b × Within (x .users) a × Within (x .permissions) b ⌝ }
     ensures { λ m. ⌜ Marked source (keptWith source x) d (now (us .entry)) (now (ps .entry)) (now (us .exit)) (now (ps .exit)) m
-        × Indexed (grown d m) (now (us .exit)) (now (ps .exit)) (now (heads .exit)) (now (links .exit)) ⌝ }
+        × Indexed (grown d m) (now (us .exit)) (now (ps .exit)) (now (links .exit)) a b ⌝ }
 {
     let u = x.users;
     let p = x.permissions;
@@ -170,16 +124,11 @@ fn mark_field(
     if p == 0 {
         return 0;
     }
-    let k = find(source, us, ps, heads, links, d, u, p);
-    if k < d {
-        return k + 1;
-    }
-    add(us, ps, heads, links, d, u, p);
-    d + 1
+    index::enter(source, us, ps, links, a, b, d, u, p) + 1
 }
 
 // The marks of the first n masks, and the sets that they are the places of. It stops once it has more than `limit` rows. `links` is scratch for the
-// index of the sets.
+// index of the sets, which goes by the members a and b: all users and all permissions that the role can have.
 pub fn derive(
     role: Role,
     masks: &[u64],
@@ -199,7 +148,8 @@ pub fn derive(
     let permissions = role.permissions;
     let user_slots = used_in(&users);
     let permission_slots = used_in(&permissions);
-    let mut heads = [0u16; 512];
+    let a = union_in(&users, user_slots, user_slots);
+    let b = union_in(&permissions, permission_slots, permission_slots);
     let mut d = 0;
     let mut rows = 0;
     let mut i = 0;
@@ -215,7 +165,7 @@ pub fn derive(
             permission_slots,
             masks[i],
         );
-        let m = mark_field(source, x, us, ps, &mut heads, links, d);
+        let m = mark_field(source, x, us, ps, links, a, b, d);
         if m == d + 1 {
             d += 1;
         }

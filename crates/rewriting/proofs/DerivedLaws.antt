@@ -21,7 +21,8 @@ use Rattle.derivation.proofs.RewritingTheorems.{kept-mask}
 use Rattle.derivation.proofs.RoleByRole.{entriesAt, rowsAt}
 use Rattle.derivation.proofs.RoleMarks as rules
 use Rattle.derive.specs.Role.{keptBy, roleOf}
-use Rattle.derive.specs.Derive.{entriesTo, nextEntries, markOf, entriesFrom, marksFrom, rowsIn, Derived, DerivedTo}
+use Rattle.index.specs.Entries.{entriesTo}
+use Rattle.derive.specs.Derive.{nextEntries, markOf, entriesFrom, marksFrom, rowsIn, Derived, DerivedTo}
 use Rattle.derive.specs.declared.Role.{Role}
 use Rattle.derive.specs.declared.Count.{Count}
 use Rattle.derive.proofs.RoleLaws.{kept-by}

@@ -18,7 +18,7 @@ use Rattle.derivation.specs.Cuts.{gaps}
 use Rattle.derivation.specs.Rewriting.{fieldsOf, fields, rewrite, sizeOf}
 use Rattle.derivation.proofs.RoleByRole.{entriesAt, rowsAt, entriesFrom, rowsFrom, entries-next, rows-next, entries-none, rows-none}
 use Rattle.derivation.proofs.RoleMarks.{rowsMarked}
-use Rattle.derive.specs.Derive.{entriesTo}
+use Rattle.index.specs.Entries.{entriesTo}
 use Rattle.derive.specs.declared.Count.{Count}
 use Rattle.grid.specs.Grid.{Cuts, Divided, Laid}
 use Rattle.rewriting.specs.Parts.{RoleDerived, roleRows}

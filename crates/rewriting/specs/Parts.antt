@@ -17,7 +17,7 @@ use Rattle.derivation.specs.Rewriting.{fieldOf, fieldsOf, fields, rewrite, size
 use Rattle.derivation.specs.Masks.{maskOf}
 use Rattle.derivation.proofs.RoleByRole.{entriesAt, rowsAt}
 use Rattle.derivation.proofs.RoleMarks.{rowsMarked}
-use Rattle.derive.specs.Derive.{entriesTo}
+use Rattle.index.specs.Entries.{entriesTo}
 use Rattle.derive.specs.declared.Count.{Count}
 
 -- n rows from `at` on lie inside the bytes, with numbers below 64 and hours that are always or one of at most 32 records

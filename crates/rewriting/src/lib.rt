@@ -12,8 +12,9 @@ ghost use Rattle.table.specs.TableBytes.{entryBytes, rowBytes};
 ghost use Rattle.derivation.specs.Rewriting.{rewrite, sizeOf, rewriteOutcome, areaAfter};
 ghost use Rattle.derivation.specs.Masks.{slotOf};
 ghost use Rattle.derivation.proofs.RoleMarks.{marked};
+ghost use Rattle.index.specs.Entries.{entriesTo};
 ghost use Rattle.derive.specs.Role.{bySlot, roleOf};
-ghost use Rattle.derive.specs.Derive.{Room, entriesTo};
+ghost use Rattle.derive.specs.Derive.{Room};
 ghost use Rattle.grid.specs.Grid.{Cuts, Divided, Laid};
 ghost use Rattle.rewriting.specs.Parts.{RowsFit, MasksAre, RoleDerivedTo, CountedTo, HeaderFits, started, cellOf, eraRows, roleRows};
 ghost use Rattle.rewriting.specs.Answers.{writtenGiven};
@@ -393,7 +394,7 @@ fn rewrite_small(
     let mut us = [0u64; 256];
     let mut ps = [0u64; 256];
     let mut marks = [0u16; 256];
-    let mut links = [0u16; 256];
+    let mut links = [0u16; 512];
     rewrite_with(
         s,
         l,
@@ -426,7 +427,7 @@ fn rewrite_middle(
     let mut us = [0u64; 4096];
     let mut ps = [0u64; 4096];
     let mut marks = [0u16; 4096];
-    let mut links = [0u16; 4096];
+    let mut links = [0u16; 8192];
     rewrite_with(
         s,
         l,
@@ -460,7 +461,7 @@ fn rewrite_large(
     let mut us = [0u64; 33345];
     let mut ps = [0u64; 33345];
     let mut marks = [0u16; 33345];
-    let mut links = [0u16; 33345];
+    let mut links = [0u16; 66690];
     rewrite_with(
         s,
         l,

@@ -1,24 +1,60 @@
-use native.Mathlib.Omega.{arith}
-use mathlib.Core.Path.{sym, _∙_}
-use Rattle.derive.proofs.FindLaws.{enabled-sets, no-sets}
+use mathlib.Core.Path.{sym, _∙_, ap}
+use Rattle.bitset.specs.Sets.{intersection}
+use Rattle.derive.proofs.UnionLaws.{union-empty}
+use Rattle.derive.proofs.SetsLaws.{without-users, without-permissions, not-enabled, with-both}
+use borrow.Author.Needs.{needs}
 use Rattle.derive.proofs.sets_in.Statement.{statement}
 use Rattle.derive.proofs.sets_in.Tie as tie
 
-contains-requires : tie.Need-contains-requires
-contains-requires c κs = omega (arith, c .pre .0)
+both-requires : tie.Need-both-requires
+both-requires c κs = search needs
 
-union-in-requires : tie.Need-union-in-requires
-union-in-requires c κs = c .before .before .pre .1
-
-union-in-requires-2 : tie.Need-union-in-requires-2
-union-in-requires-2 c κs = c .before .before .before .pre .2
+no-sets-requires : tie.Need-no-sets-requires
+no-sets-requires c κs = search needs
 
 returns : tie.Need-returns
-returns c = let a = c .before .before .before .before .args in enabled-sets (a .on) (a .users .now) (a .permissions .now) (a .mask) _ _ (sym (c .before .before .before .contains .ensures) ∙ c .before .before .if1 .taken) (c .before .union-in .ensures) (c .union-in2 .ensures)
+returns c = let a = c .before .before .before .args in without-users (a .on) (a .users .now) (a .permissions .now) (a .mask) (union-empty (a .users .now) (a .mask) _ (c .before .before .both .ensures ∙ ap (intersection (a .mask)) (c .before .before .before .pre .1)) (c .before .if1 .taken)) _ (c .no-sets .ensures)
+
+both-requires-2 : tie.Need-both-requires-2
+both-requires-2 c κs = search needs
+
+no-sets-requires-2 : tie.Need-no-sets-requires-2
+no-sets-requires-2 c κs = search needs
 
 returns-2 : tie.Need-returns-2
-returns-2 c = let a = c .before .before .args in no-sets (a .on) (a .users .now) (a .permissions .now) (a .mask) (sym (c .before .contains .ensures) ∙ c .if1 .left)
+returns-2 c = let a = c .before .before .before .before .before .args in without-permissions (a .on) (a .users .now) (a .permissions .now) (a .mask) (union-empty (a .permissions .now) (a .mask) _ (c .before .before .both2 .ensures ∙ ap (intersection (a .mask)) (c .before .before .before .before .before .pre .2)) (c .before .if2 .taken)) _ (c .no-sets2 .ensures)
+
+contains-requires : tie.Need-contains-requires
+contains-requires c κs = c .before .before .before .before .pre .0
+
+union-in-requires : tie.Need-union-in-requires
+union-in-requires c κs = c .before .before .before .before .before .before .pre .1
+
+union-in-requires-2 : tie.Need-union-in-requires-2
+union-in-requires-2 c κs = c .before .before .before .before .before .before .before .pre .2
+
+no-sets-requires-3 : tie.Need-no-sets-requires-3
+no-sets-requires-3 c κs = search needs
+
+returns-3 : tie.Need-returns-3
+returns-3 c = let a = c .before .before .before .before .before .before .before .before .args in with-both (a .on) (a .users .now) (a .permissions .now) (a .mask) _ _ (sym (c .before .before .before .contains .ensures) ∙ c .before .before .if3 .taken) (c .before .union-in .ensures) (c .union-in2 .ensures)
+
+returns-4 : tie.Need-returns-4
+returns-4 c = let a = c .before .before .before .before .before .before .before .args in not-enabled (a .on) (a .users .now) (a .permissions .now) (a .mask) (sym (c .before .before .contains .ensures) ∙ c .before .if3 .left) _ (c .no-sets3 .ensures)
 
 pub sets-in-spec : {M : Type 1} → statement M
 sets-in-spec =
-    tie.close (tie.spec contains-requires union-in-requires union-in-requires-2 returns returns-2)
+    tie.close
+    (tie.spec
+    both-requires
+    no-sets-requires
+    returns
+    both-requires-2
+    no-sets-requires-2
+    returns-2
+    contains-requires
+    union-in-requires
+    union-in-requires-2
+    no-sets-requires-3
+    returns-3
+    returns-4)

@@ -3,8 +3,7 @@ use mathlib.Core.Path.{_≡_, ap, _∙_}
 use Prim.Native.Nat.{_-_, _≤_}
 use Rattle.bitset.specs.Sets.{intersection}
 use Rattle.derive.specs.Role.{unionOf}
-use Rattle.derive.proofs.FindLaws.{union-none}
-use Rattle.derive.proofs.UnionLaws.{union-done, union-past, union-turn}
+use Rattle.derive.proofs.UnionLaws.{union-none, union-done, union-past, union-turn}
 use borrow.Author.Needs.{needs}
 use Rattle.derive.proofs.union_in.Statement.{statement}
 use Rattle.derive.proofs.union_in.Tie as tie

@@ -2,8 +2,8 @@ use native.Mathlib.Omega.{arith}
 use mathlib.Core.Path.{_≡_, refl, ap, _∙_}
 use Prim.Native.Nat.{ℕ, _+_, _*_, _-_, _≤_}
 use Rattle.table.specs.TableBytes.{entryBytes}
-use Rattle.derive.proofs.FindLaws.{entriesLeft, left-turn, left-none}
-use Rattle.derive.specs.Derive.{entriesTo}
+use Rattle.index.specs.Entries.{entriesTo}
+use Rattle.index.proofs.EntryLaws.{entriesLeft, left-turn, left-none}
 use Rattle.rewriting.proofs.WriteLaws.{Writing, entry-long, writing-start, writing-one, writing-end}
 use Rattle.rewriting.proofs.write_entries.Statement.{statement}
 use Rattle.rewriting.proofs.write_entries.Tie as tie

@@ -1,0 +1,4 @@
+pub mod TurnLaws
+pub mod WalkLaws
+pub mod LinkLaws
+pub mod EntryLaws

@@ -1,0 +1,88 @@
+use native.Mathlib.Omega.{arith}
+use mathlib.Core.Path.{refl}
+use lib.ListN.{length-set}
+use Rattle.index.proofs.LinkLaws.{index-add}
+use borrow.Author.Needs.{needs}
+use Rattle.index.proofs.add.Statement.{statement}
+use Rattle.index.proofs.add.Tie as tie
+
+mul-us : tie.Need-mul-us
+mul-us c = search needs
+
+slice-write-us : tie.Need-slice-write-us
+slice-write-us c = search needs
+
+mul-ps : tie.Need-mul-ps
+mul-ps c = search needs
+
+slice-write-ps : tie.Need-slice-write-ps
+slice-write-ps c = search needs
+
+add-links : tie.Need-add-links
+add-links c = search needs
+
+cast-links : tie.Need-cast-links
+cast-links c = search needs
+
+mul-links : tie.Need-mul-links
+mul-links c = search needs
+
+slice-write-links : tie.Need-slice-write-links
+slice-write-links c = omega (arith, c .pre .1 .4 .within)
+
+mul-links-2 : tie.Need-mul-links-2
+mul-links-2 c = search needs
+
+mul-links-3 : tie.Need-mul-links-3
+mul-links-3 c = search needs
+
+slice-write-links-2 : tie.Need-slice-write-links-2
+slice-write-links-2 c = simp length-set (omega arith)
+
+mul-links-4 : tie.Need-mul-links-4
+mul-links-4 c = search needs
+
+add-links-2 : tie.Need-add-links-2
+add-links-2 c = search needs
+
+mul-links-5 : tie.Need-mul-links-5
+mul-links-5 c = search needs
+
+slice-write-links-3 : tie.Need-slice-write-links-3
+slice-write-links-3 c = simp length-set (omega arith)
+
+same-length : tie.Need-same-length
+same-length c = search needs
+
+same-length-2 : tie.Need-same-length-2
+same-length-2 c = search needs
+
+same-length-3 : tie.Need-same-length-3
+same-length-3 c = search needs
+
+returns : tie.Need-returns
+returns c = let a = c .args in let p = c .pre in (refl, refl, index-add (a .d) (a .us .now) (a .ps .now) (a .u) (a .p) (p .0 .0) (p .0 .1) (p .1 .0) (p .0 .2) (p .1 .1) (p .1 .2) (p .1 .3) (p .1 .4))
+
+pub add-spec : {M : Type 1} → statement M
+add-spec =
+    tie.close
+    (tie.spec
+    mul-us
+    slice-write-us
+    mul-ps
+    slice-write-ps
+    add-links
+    cast-links
+    mul-links
+    slice-write-links
+    mul-links-2
+    mul-links-3
+    slice-write-links-2
+    mul-links-4
+    add-links-2
+    mul-links-5
+    slice-write-links-3
+    same-length
+    same-length-2
+    same-length-3
+    returns)

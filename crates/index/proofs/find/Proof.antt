@@ -1,0 +1,89 @@
+use native.Mathlib.Omega.{arith}
+use mathlib.Core.Path.{refl}
+use mathlib.Core.Logic.{⊎-elim}
+use Prim.Native.Nat.{_+_}
+use Rattle.bitset.specs.Sets.{count}
+use Rattle.index.proofs.WalkLaws.{Seeking, seek-start, some-left, hook-below, link-below, left-falls, seek-on, seek-past, seek-none}
+use Rattle.index.proofs.find.Statement.{statement}
+use Rattle.index.proofs.find.Tie as tie
+
+abbrev Inv-loop : tie.InvT-loop
+Inv-loop us ps links a b n u p rest-a₀ rest-b₀ k₀ rest-a rest-b k = Seeking n us ps links a b u p rest-a rest-b k
+
+abbrev μ-loop : tie.MeasureT-loop
+μ-loop us ps links a b n u p rest-a₀ rest-b₀ k₀ rest-a rest-b k = count rest-a + count rest-b
+
+returns : tie.Need-returns Inv-loop μ-loop
+returns c = let a = c .before .before .before .before .args in record { most = omega arith; here = λ h. absurd (omega arith); absent = λ e. seek-none (a .n) (a .us .now) (a .ps .now) (a .links .now) (a .a) (a .b) (a .u) (a .p) (c .if1 .taken) }
+
+loop-holds : tie.Need-loop-holds Inv-loop μ-loop
+loop-holds c = let a = c .before .before .before .before .args in seek-start (a .n) (a .us .now) (a .ps .now) (a .links .now) (a .a) (a .b) (a .u) (a .p) (c .if1 .left)
+
+mul-if2 : tie.Need-mul-if2 Inv-loop μ-loop
+mul-if2 c = omega (arith, c .loop .inv .below, c .before .before .before .before .before .pre .0)
+
+shared-slice-read-if2 : tie.Need-shared-slice-read-if2 Inv-loop μ-loop
+shared-slice-read-if2 c = omega (arith, c .before .loop .inv .below, c .before .before .before .before .before .before .pre .0)
+
+mul-if3 : tie.Need-mul-if3 Inv-loop μ-loop
+mul-if3 c = omega (arith, c .before .before .loop .inv .below, c .before .before .before .before .before .before .before .pre .0)
+
+shared-slice-read-if3 : tie.Need-shared-slice-read-if3 Inv-loop μ-loop
+shared-slice-read-if3 c = omega (arith, c .before .before .before .loop .inv .below, c .before .before .before .before .before .before .before .before .pre .0)
+
+returns-2 : tie.Need-returns-2 Inv-loop μ-loop
+returns-2 c = let l = c .before .before .before .before .loop in record { most = omega (arith, l .inv .below); here = λ h. (c .before .before .if2 .taken, c .if3 .taken); absent = λ e. absurd (omega (arith, l .inv .below)) }
+
+next-turn-requires : tie.Need-next-turn-requires Inv-loop μ-loop
+next-turn-requires c κs = some-left (c .before .before .before .before .before .before .before .pre .1 .0) (c .before .before .before .before .before .before .before .pre .1 .1) (c .before .before .before .before .before .before .before .pre .1 .2) (c .before .before .loop .inv) (⊎-elim (λ w. λ eu ep. w .2 .left ep) (λ w. λ eu ep. w .left eu) (c .if2 .came))
+
+mul-hook : tie.Need-mul-hook Inv-loop μ-loop
+mul-hook c = omega (arith, c .before .before .before .loop .inv .below, c .before .before .before .before .before .before .before .before .pre .0)
+
+add-hook : tie.Need-add-hook Inv-loop μ-loop
+add-hook c = omega (arith, hook-below (c .before .before .before .before .before .before .before .before .before .pre .1 .0) (c .before .before .before .before .before .before .before .before .before .pre .1 .1) (c .before .before .before .before .before .before .before .before .before .pre .1 .2) (c .before .before .before .before .loop .inv) (⊎-elim (λ w. λ eu ep. w .2 .left ep) (λ w. λ eu ep. w .left eu) (c .before .before .if2 .came)) (c .before .next-turn .ensures), c .before .before .before .before .before .before .before .before .before .pre .0)
+
+mul-c : tie.Need-mul-c Inv-loop μ-loop
+mul-c c = omega (arith, hook-below (c .before .before .before .before .before .before .before .before .before .pre .1 .0) (c .before .before .before .before .before .before .before .before .before .pre .1 .1) (c .before .before .before .before .before .before .before .before .before .pre .1 .2) (c .before .before .before .before .loop .inv) (⊎-elim (λ w. λ eu ep. w .2 .left ep) (λ w. λ eu ep. w .left eu) (c .before .before .if2 .came)) (c .before .next-turn .ensures), c .before .before .before .before .before .before .before .before .before .pre .0)
+
+shared-slice-read-c : tie.Need-shared-slice-read-c Inv-loop μ-loop
+shared-slice-read-c c = omega (arith, hook-below (c .before .before .before .before .before .before .before .before .before .before .pre .1 .0) (c .before .before .before .before .before .before .before .before .before .before .pre .1 .1) (c .before .before .before .before .before .before .before .before .before .before .pre .1 .2) (c .before .before .before .before .before .loop .inv) (⊎-elim (λ w. λ eu ep. w .2 .left ep) (λ w. λ eu ep. w .left eu) (c .before .before .before .if2 .came)) (c .before .before .next-turn .ensures), c .before .before .before .before .before .before .before .before .before .before .pre .0)
+
+cast-c : tie.Need-cast-c Inv-loop μ-loop
+cast-c c = omega (arith, link-below (c .before .before .before .before .before .before .before .before .before .before .pre .1 .0) (c .before .before .before .before .before .before .before .before .before .before .pre .1 .1) (c .before .before .before .before .before .before .before .before .before .before .pre .1 .2) (c .before .before .before .before .before .loop .inv) (⊎-elim (λ w. λ eu ep. w .2 .left ep) (λ w. λ eu ep. w .left eu) (c .before .before .before .if2 .came)) (c .before .before .next-turn .ensures), c .before .before .before .before .before .before .before .before .before .before .pre .0)
+
+returns-3 : tie.Need-returns-3 Inv-loop μ-loop
+returns-3 c = record { most = omega arith; here = λ h. absurd (omega arith); absent = λ e. seek-past (c .before .before .before .before .before .before .before .before .before .before .before .pre .1 .0) (c .before .before .before .before .before .before .before .before .before .before .before .pre .1 .1) (c .before .before .before .before .before .before .before .before .before .before .before .pre .1 .2) (c .before .before .before .before .before .before .loop .inv) (⊎-elim (λ w. λ eu ep. w .2 .left ep) (λ w. λ eu ep. w .left eu) (c .before .before .before .before .if2 .came)) (c .before .before .before .next-turn .ensures) (c .if4 .taken) }
+
+sub-k : tie.Need-sub-k Inv-loop μ-loop
+sub-k c = omega arith
+
+loop-less : tie.Need-loop-less Inv-loop μ-loop
+loop-less c = omega (arith, left-falls (c .before .before .before .before .before .before .before .before .before .before .before .pre .1 .0) (c .before .before .before .before .before .before .before .before .before .before .before .pre .1 .1) (c .before .before .before .before .before .before .before .before .before .before .before .pre .1 .2) (c .before .before .before .before .before .before .loop .inv) (⊎-elim (λ w. λ eu ep. w .2 .left ep) (λ w. λ eu ep. w .left eu) (c .before .before .before .before .if2 .came)) (c .before .before .before .next-turn .ensures))
+
+loop-again : tie.Need-loop-again Inv-loop μ-loop
+loop-again c = seek-on (c .before .before .before .before .before .before .before .before .before .before .before .pre .1 .0) (c .before .before .before .before .before .before .before .before .before .before .before .pre .1 .1) (c .before .before .before .before .before .before .before .before .before .before .before .pre .1 .2) (c .before .before .before .before .before .before .loop .inv) (⊎-elim (λ w. λ eu ep. w .2 .left ep) (λ w. λ eu ep. w .left eu) (c .before .before .before .before .if2 .came)) (c .before .before .before .next-turn .ensures) _ refl (c .if4 .left)
+
+pub find-spec : {M : Type 1} → statement M
+find-spec =
+    tie.close
+    (tie.spec
+    Inv-loop
+    μ-loop
+    returns
+    loop-holds
+    mul-if2
+    shared-slice-read-if2
+    mul-if3
+    shared-slice-read-if3
+    returns-2
+    next-turn-requires
+    mul-hook
+    add-hook
+    mul-c
+    shared-slice-read-c
+    cast-c
+    returns-3
+    sub-k
+    loop-less
+    loop-again)

@@ -1,0 +1,135 @@
+// Pairs of sets in the order in which they first come, each once, and a digital search tree (Coffman and Eve, 1970) that finds a pair among them. The pairs
+// themselves are the nodes: pair 0 is the root, and places 2 k and 2 k + 1 of the links have the two children of pair k, each as one more than its place, or
+// 0 where there is none. A walk turns at each pair by one member, of those that any pair can have, and goes on without it: however the pairs
+// are chosen, it looks at no more of them than there are such members, and one.
+ghost use mathlib.Core.Path.{_≡_};
+ghost use Prim.Native.Nat.{_+_, _<_, _≤_};
+ghost use lib.ListN.{length, set};
+ghost use Rattle.ground.specs.Search.{one};
+ghost use Rattle.bitset.specs.Sets.{has};
+ghost use Rattle.table.specs.Answers.{entryMade};
+ghost use Rattle.index.specs.Entries.{Entered, after};
+ghost use Rattle.index.specs.Tree.{Turned, Within, Indexed, Absent, Ends, Sought};
+
+// A turn of a walk: to which side, and which members are left to go by.
+pub struct Turn {
+    pub side: usize,
+    pub users: u64,
+    pub permissions: u64,
+}
+
+// Where a pair was found; or, where there is none, the place of the links that would have it.
+pub struct Found {
+    pub place: usize,
+    pub hook: usize,
+}
+
+// 1 where i is a member, else 0.
+fn side(set: u64, i: u32) -> usize
+    requires { ⌜ i < 64 ⌝ }
+    ensures { λ r. ⌜ r ≡ one (has set i) ⌝ }
+{
+    if bitset::contains(set, i) { 1 } else { 0 }
+}
+
+// The next turn of a walk that seeks u and p, by the lowest member that is left of a, or of b where none of a is left.
+fn next_turn(a: u64, b: u64, u: u64, p: u64) -> Turn
+    requires { ⌜ (a ≡ 0 → b ≡ 0 → ⊥) ⌝ }
+    ensures { λ t. ⌜ Turned a b u p t ⌝ }
+{
+    if a == 0 {
+        let i = bitset::lowest(b);
+        Turn {
+            side: side(p, i),
+            users: 0,
+            permissions: bitset::without(b, i),
+        }
+    } else {
+        let i = bitset::lowest(a);
+        Turn {
+            side: side(u, i),
+            users: bitset::without(a, i),
+            permissions: b,
+        }
+    }
+}
+
+// Where u and p stand among the first n pairs; or n, and where the walk that seeks them ends.
+fn find(us: &[u64], ps: &[u64], links: &[u16], a: u64, b: u64, n: usize, u: u64, p: u64) -> Found
+    requires { ⌜ (n ≤ length (now us)) × (n ≤ length (now ps)) × (n + n ≤ length (now links)) × (n < 33345) ⌝ }
+    requires { ⌜ Indexed n (now us) (now ps) (now links) a b × Within u a × Within p b ⌝ }
+    ensures { λ f. ⌜ Sought n (now (us .entry)) (now (ps .entry)) (now (links .entry)) a b u p f ⌝ }
+{
+    if n == 0 {
+        return Found { place: 0, hook: 0 };
+    }
+    let mut rest_a = a;
+    let mut rest_b = b;
+    let mut k = 0;
+    loop {
+        if us[k] == u {
+            if ps[k] == p {
+                return Found { place: k, hook: 0 };
+            }
+        }
+        let t = next_turn(rest_a, rest_b, u, p);
+        let hook = 2 * k + t.side;
+        let c = links[hook] as usize;
+        if c == 0 {
+            return Found { place: n, hook };
+        }
+        rest_a = t.users;
+        rest_b = t.permissions;
+        k = c - 1;
+    }
+}
+
+// The pair u and p, which is not among the first d, comes next, and is linked where its walk ended.
+fn add(
+    us: &mut [u64],
+    ps: &mut [u64],
+    links: &mut [u16],
+    a: u64,
+    b: u64,
+    d: usize,
+    u: u64,
+    p: u64,
+    hook: usize,
+)
+    requires { ⌜ (d < length (now us)) × (d < length (now ps)) × (d + d + 1 < length (now links)) × (d < 33345) ⌝ }
+    requires { ⌜ Indexed d (now us) (now ps) (now links) a b × Within u a × Within p b × Absent d (now us) (now ps) u p × Ends d (now links) a b u p hook ⌝ }
+    ensures { λ _. ⌜ (now (us .exit) ≡ set (now (us .entry)) d u) × (now (ps .exit) ≡ set (now (ps .entry)) d p)
+        × Indexed (d + 1) (now (us .exit)) (now (ps .exit)) (now (links .exit)) a b ⌝ }
+{
+    us[d] = u;
+    ps[d] = p;
+    links[hook] = (d + 1) as u16;
+    links[2 * d] = 0;
+    links[2 * d + 1] = 0;
+}
+
+// Where u and p stand among the first d pairs; where they are not there yet they become the next one, d.
+pub fn enter(
+    source: u8,
+    us: &mut [u64],
+    ps: &mut [u64],
+    links: &mut [u16],
+    a: u64,
+    b: u64,
+    d: usize,
+    u: u64,
+    p: u64,
+) -> usize
+    requires { ⌜ (d < length (now us)) × (d < length (now ps)) × (d + d + 1 < length (now links)) × (d < 33345) ⌝ }
+    requires { ⌜ Indexed d (now us) (now ps) (now links) a b × Within u a × Within p b ⌝ }
+    ensures { λ k. ⌜ Entered source (entryMade source u p) d (now (us .entry)) (now (ps .entry)) (now (us .exit)) (now (ps .exit)) k
+        × Indexed (after d k) (now (us .exit)) (now (ps .exit)) (now (links .exit)) a b ⌝ }
+{
+    let f = find(us, ps, links, a, b, d, u, p);
+    let k = f.place;
+    if k < d {
+        return k;
+    }
+    add(us, ps, links, a, b, d, u, p, f.hook);
+    d
+}
