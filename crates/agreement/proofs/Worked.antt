@@ -78,7 +78,7 @@ pub small-rows : rewrite ρ .rows
 unfolding opened rowsFrom
 small-rows = rows-by-role ρ ∙ ap (λ (l : List Row). l ++ []) (role-rows ρ 0 (map (maskOf ρ) (fields ρ)) agree 0)
 
-small-size : sizeOf (rewrite ρ) ≡ 259
+pub small-size : sizeOf (rewrite ρ) ≡ 259
 unfolding sizeOf
 small-size = omega (arith, ap length small-entries, ap length small-rows)
 
