@@ -20,9 +20,12 @@ use reference::service::{Call, State};
 const LARGE: usize = 40_000_000;
 const SMALL: usize = 65_536;
 
+/// How many questions or advances make a call that is timed.
+const ASKED: u32 = 7;
+
 /// Minutes in several eras and cells, for what is asked of a rota or of a table.
 fn minutes() -> impl Iterator<Item = u32> {
-    (1..8).map(|i| END / 8 * i + 5_003 * i)
+    (1..=ASKED).map(|i| END / 8 * i + 5_003 * i)
 }
 
 fn questions(ask: impl Fn(u32, u32, u32) -> ffi::rota::Answered) {
@@ -43,8 +46,13 @@ struct Search {
 }
 
 impl Search {
-    /// Makes what is timed of a rota, and gives the seconds of the quickest of so many calls.
+    /// Seconds of what is timed, on this rota: the quickest of so many rounds.
     fn seconds(&mut self, rota: &[u8], times: u32) -> f64 {
+        let asked = self.what.ends_with("question") || self.what.ends_with("advance");
+        self.round(rota, times) / if asked { ASKED.into() } else { 1.0 }
+    }
+
+    fn round(&mut self, rota: &[u8], times: u32) -> f64 {
         let area = &mut self.area[..];
         let table: &[u8] = if self.what.starts_with("table") {
             let written = tuned::rewriting::rewrite(rota, area).expect("a table has room");

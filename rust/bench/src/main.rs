@@ -1,5 +1,6 @@
 //! Times each operation of the proved code against the quick implementation, on the same inputs in
 //! one run, and prints the ratio. Readers are also shown beside a plain pass over the same bytes.
+//! At the end all stands in one table.
 
 mod inputs;
 mod timing;
@@ -17,41 +18,82 @@ use tuned::{calendar, rewriting};
 use inputs::{Input, Question, inputs};
 use timing::{Times, time};
 
-/// One line: both times, and how many times as long the proved code takes.
-fn print(operation: &str, input: &str, times: Times) {
-    let ratio = times.proved / times.tuned;
-    println!(
-        "{operation:<16} {input:<26} {} {} {ratio:>9.3}",
-        nanoseconds(times.proved),
-        nanoseconds(times.tuned)
-    );
+/// All that was timed, in the order of the lines that were printed.
+#[derive(Default)]
+struct Report {
+    cells: Vec<(String, &'static str, Times)>,
+}
+
+impl Report {
+    /// One line: both times, and how many times as long the proved code takes.
+    fn print(&mut self, operation: &str, input: &'static str, times: Times) {
+        println!(
+            "{operation:<20} {input:<22} {} {} {:>9.3}",
+            nanoseconds(times.proved),
+            nanoseconds(times.tuned),
+            times.ratio()
+        );
+        self.cells.push((operation.to_string(), input, times));
+    }
+
+    /// A reader's line goes on with its speed and that of a plain pass that adds up the bytes.
+    fn print_reader(&mut self, operation: &str, input: &'static str, bytes: &[u8], times: Times) {
+        self.print(operation, input, times);
+        let sum = |bytes: &[u8]| bytes.iter().map(|&byte| u64::from(byte)).sum::<u64>();
+        let pass = time(|_| sum(black_box(bytes)), |_| sum(black_box(bytes)));
+        let speed = |seconds: f64| bytes.len() as f64 / seconds / 1e6;
+        println!(
+            "{:<20} {:<22} {:>9.0} MB/s {:>9.0} MB/s, plain pass {:.0} MB/s",
+            "",
+            format!("  {} bytes", bytes.len()),
+            speed(times.proved),
+            speed(times.tuned),
+            speed(pass.proved.min(pass.tuned))
+        );
+    }
+
+    /// A table of all operations by inputs: the ratio, and the time of the proved code.
+    fn print_table(&self, inputs: &[Input]) {
+        let names: Vec<&str> = inputs.iter().map(|input| input.name).collect();
+        let mut operations: Vec<&str> = Vec::new();
+        for (operation, input, _) in &self.cells {
+            if names.contains(input) && !operations.contains(&operation.as_str()) {
+                operations.push(operation);
+            }
+        }
+        println!("\n| operation | {} |\n|---|{}", names.join(" | "), "---|".repeat(names.len()));
+        for operation in operations {
+            let cell = |name: &&str| {
+                let found = self.cells.iter().find(|cell| cell.0 == operation && cell.1 == *name);
+                found.map_or(String::new(), |(_, _, times)| {
+                    format!("{:.2} ({})", times.ratio(), in_words(times.proved))
+                })
+            };
+            let cells: Vec<String> = names.iter().map(cell).collect();
+            println!("| {operation} | {} |", cells.join(" | "));
+        }
+    }
 }
 
 fn nanoseconds(seconds: f64) -> String {
     format!("{:>14.1}", seconds * 1e9)
 }
 
-/// A reader's line goes on with its speed and that of a plain pass that adds up the bytes.
-fn print_reader(operation: &str, input: &str, bytes: &[u8], times: Times) {
-    print(operation, input, times);
-    let sum = |bytes: &[u8]| bytes.iter().map(|&byte| u64::from(byte)).sum::<u64>();
-    let pass = time(|_| sum(black_box(bytes)), |_| sum(black_box(bytes)));
-    let speed = |seconds: f64| bytes.len() as f64 / seconds / 1e6;
-    println!(
-        "{:<16} {:<26} {:>9.0} MB/s {:>9.0} MB/s, plain pass {:.0} MB/s",
-        "",
-        format!("  {} bytes", bytes.len()),
-        speed(times.proved),
-        speed(times.tuned),
-        speed(pass.proved.min(pass.tuned))
-    );
+/// A time in the unit that suits it.
+fn in_words(seconds: f64) -> String {
+    match seconds {
+        ..1e-6 => format!("{:.0} ns", seconds * 1e9),
+        ..1e-3 => format!("{:.1} µs", seconds * 1e6),
+        ..1.0 => format!("{:.1} ms", seconds * 1e3),
+        _ => format!("{seconds:.1} s"),
+    }
 }
 
-fn rota(input: &Input) {
+fn rota(input: &Input, report: &mut Report) {
     let Some(bytes) = &input.rota else { return };
     let (name, bytes) = (input.name, &bytes[..]);
     let times = time(|_| ffi::rota::read(black_box(bytes)), |_| Rota::read(black_box(bytes)));
-    print_reader("rota read", name, bytes, times);
+    report.print_reader("rota read", name, bytes, times);
     let times = time(
         |i| {
             let Question { user, permission, minute } = input.question(i);
@@ -62,19 +104,19 @@ fn rota(input: &Input) {
             Rota::read(black_box(bytes)).and_then(|rota| question(&rota, user, permission, minute))
         },
     );
-    print("rota question", name, times);
+    report.print("rota question", name, times);
     let minute = |i: usize| input.question(i).minute;
     let times = time(
         |i| ffi::rota::holders(black_box(bytes), minute(i)),
         |i| Rota::read(black_box(bytes)).and_then(|rota| holders(&rota, minute(i))),
     );
-    print("rota holders", name, times);
+    report.print("rota holders", name, times);
 }
 
-fn table(input: &Input) {
+fn table(input: &Input, report: &mut Report) {
     let (name, bytes) = (input.name, &input.table[..]);
     let times = time(|_| ffi::table::read(black_box(bytes)), |_| Table::read(black_box(bytes)));
-    print_reader("table read", name, bytes, times);
+    report.print_reader("table read", name, bytes, times);
     let times = time(
         |i| {
             let Question { user, permission, minute } = input.question(i);
@@ -86,36 +128,36 @@ fn table(input: &Input) {
             table.and_then(|table| question(&table, user, permission, minute))
         },
     );
-    print("table question", name, times);
+    report.print("table question", name, times);
     let minute = |i: usize| input.question(i).minute;
     let times = time(
         |i| ffi::table::holders(black_box(bytes), minute(i)),
         |i| Table::read(black_box(bytes)).and_then(|table| holders(&table, minute(i))),
     );
-    print("table holders", name, times);
+    report.print("table holders", name, times);
 }
 
 /// Into an area of the table's size, and into one of 64 KiB if that is too small for it.
-fn rewrite(input: &Input) {
+fn rewrite(input: &Input, report: &mut Report) {
     let Some(rota) = &input.rota else { return };
-    let area = |size: usize, name: &str| {
+    let mut into = |operation: &str, size: usize| {
         let (mut ours, mut theirs) = (vec![0; size], vec![0; size]);
         let times = time(
             |_| ffi::rewriting::rewrite(black_box(rota), &mut ours),
             |_| rewriting::rewrite(black_box(rota), &mut theirs),
         );
         assert!(ours == theirs, "the two tables differ");
-        print("rewrite", name, times);
+        report.print(operation, input.name, times);
     };
-    area(input.table.len(), input.name);
+    into("rewrite", input.table.len());
     if input.table.len() > 65_536 {
-        area(65_536, &format!("{}, 64 KiB", input.name));
+        into("rewrite, 20 at 64 KiB", 65_536);
     }
 }
 
 /// Everyone is open, and time goes from minute 0 to the question's, or stands there; to open,
 /// nobody is.
-fn service(input: &Input) {
+fn service(input: &Input, report: &mut Report) {
     let calls = |i: usize| {
         let Question { user, permission, minute } = input.question(i);
         let at = |now, open, call| (State { now, open }, call);
@@ -129,10 +171,10 @@ fn service(input: &Input) {
     for (kind, (name, _)) in calls(0).into_iter().enumerate() {
         let call = |i: usize| calls(i)[kind].1;
         if let Some(rota) = &input.rota {
-            print(&format!("rota {name}"), input.name, serve_times(Lent::Rota(rota), call));
+            report.print(&format!("rota {name}"), input.name, serve_times(Lent::Rota(rota), call));
         }
         let table = Lent::Table(&input.table);
-        print(&format!("table {name}"), input.name, serve_times(table, call));
+        report.print(&format!("table {name}"), input.name, serve_times(table, call));
     }
 }
 
@@ -152,10 +194,10 @@ fn serve_times(lent: Lent, call: impl Fn(usize) -> (State, Call)) -> Times {
     )
 }
 
-fn dates(input: &Input) {
+fn dates(input: &Input, report: &mut Report) {
     let minute = |i: usize| input.question(i).minute;
     let times = time(|i| ffi::date(minute(i)), |i| calendar::date(minute(i)));
-    print("minute to date", "any minute", times);
+    report.print("minute to date", "any minute", times);
     let dates: Vec<_> =
         (0..inputs::QUESTIONS).map(|i| calendar::date(minute(i)).expect("a minute")).collect();
     let times = time(
@@ -168,14 +210,14 @@ fn dates(input: &Input) {
             calendar::minute(date.year, date.month, date.day, date.hour, date.minute)
         },
     );
-    print("date to minute", "any date", times);
+    report.print("date to minute", "any date", times);
 }
 
 fn main() {
     let inputs = inputs();
     for input in &inputs {
         println!(
-            "{:<26} rota {} bytes, table {} bytes: {} derived roles, {} rows",
+            "{:<22} rota {} bytes, table {} bytes: {} derived roles, {} rows",
             input.name,
             input.rota.as_ref().map_or(0, Vec::len),
             input.table.len(),
@@ -184,20 +226,22 @@ fn main() {
         );
     }
     println!(
-        "\n{:<16} {:<26} {:>14} {:>14} {:>9}",
+        "\n{:<20} {:<22} {:>14} {:>14} {:>9}",
         "operation", "input", "proved ns", "tuned ns", "ratio"
     );
+    let mut report = Report::default();
     let chosen: Vec<String> = std::env::args().skip(1).collect();
-    type Group = fn(&Input);
+    type Group = fn(&Input, &mut Report);
     let groups: [(&str, Group); 4] =
         [("rota", rota), ("table", table), ("rewrite", rewrite), ("service", service)];
     let is_chosen = |name: &str| chosen.is_empty() || chosen.iter().any(|group| group == name);
     for (name, group) in groups {
         if is_chosen(name) {
-            inputs.iter().for_each(group);
+            inputs.iter().for_each(|input| group(input, &mut report));
         }
     }
     if is_chosen("calendar") {
-        dates(&inputs[0]);
+        dates(&inputs[0], &mut report);
     }
+    report.print_table(&inputs);
 }

@@ -10,6 +10,13 @@ pub struct Times {
     pub tuned: f64,
 }
 
+impl Times {
+    /// How many times as long the proved code takes.
+    pub fn ratio(&self) -> f64 {
+        self.proved / self.tuned
+    }
+}
+
 /// How long one round of calls is to take: short, so that some round is not interrupted.
 const ROUND: Duration = Duration::from_millis(1);
 /// How long the rounds of one function are to take together, and how many there are at least:
