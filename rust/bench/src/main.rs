@@ -28,7 +28,7 @@ impl Report {
     /// One line: both times, and how many times as long the proved code takes.
     fn print(&mut self, operation: &str, input: &'static str, times: Times) {
         println!(
-            "{operation:<20} {input:<22} {} {} {:>9.3}",
+            "{operation:<22} {input:<22} {} {} {:>9.3}",
             nanoseconds(times.proved),
             nanoseconds(times.tuned),
             times.ratio()
@@ -43,7 +43,7 @@ impl Report {
         let pass = time(|_| sum(black_box(bytes)), |_| sum(black_box(bytes)));
         let speed = |seconds: f64| bytes.len() as f64 / seconds / 1e6;
         println!(
-            "{:<20} {:<22} {:>9.0} MB/s {:>9.0} MB/s, plain pass {:.0} MB/s",
+            "{:<22} {:<22} {:>9.0} MB/s {:>9.0} MB/s, plain pass {:.0} MB/s",
             "",
             format!("  {} bytes", bytes.len()),
             speed(times.proved),
@@ -226,7 +226,7 @@ fn main() {
         );
     }
     println!(
-        "\n{:<20} {:<22} {:>14} {:>14} {:>9}",
+        "\n{:<22} {:<22} {:>14} {:>14} {:>9}",
         "operation", "input", "proved ns", "tuned ns", "ratio"
     );
     let mut report = Report::default();

@@ -8,7 +8,9 @@ use std::time::Duration;
 
 use cases::case::{Case, Tally, hex, tallied};
 use cases::generate::{self, LIMITS, Sets};
+use cases::random::Random;
 use cases::{data, worst};
+use reference::rota::Rota;
 use reference::{listing, table};
 
 /// Most bytes that the program takes, and the room for the table that it prints.
@@ -168,29 +170,50 @@ fn largest_rotas() {
     tally.reached([0, 20]);
 }
 
-/// Small rotas, rotas of any size, rotas of which most grant something; whole and damaged.
+/// A small rota, one of any size, or one of which most grants something.
+fn any_rota(random: &mut Random) -> Rota {
+    match random.below(8) {
+        0 => generate::rota(random),
+        1 | 2 => generate::granting_rota(random),
+        _ => generate::small_rota(random),
+    }
+}
+
+/// Mostly at once, sometimes in pieces.
+fn any_feed(random: &mut Random) -> Feed {
+    match random.below(40) {
+        0 => Feed::Pieces(random.between(1, 200) as usize),
+        _ => Feed::AtOnce,
+    }
+}
+
 #[test]
-fn random_inputs() {
-    let tally = tallied("listed random_inputs", 3_600, |case, tally| {
-        let rota = match case.random.below(8) {
-            0 => generate::rota(&mut case.random),
-            1 | 2 => generate::granting_rota(&mut case.random),
-            _ => generate::small_rota(&mut case.random),
+fn random_rotas() {
+    let tally = tallied("listed random_rotas", 2_000, |case, tally| {
+        let rota = any_rota(&mut case.random);
+        let input = match case.random.below(8) {
+            0 => generate::with_unused_hours(&mut case.random, &rota).encode(),
+            _ => rota.encode(),
         };
-        let input = match case.random.below(16) {
-            0..=7 => rota.encode(),
-            8 => generate::with_unused_hours(&mut case.random, &rota).encode(),
-            9 => {
+        let how = any_feed(&mut case.random);
+        compare_fed(case, tally, &input, how);
+    });
+    tally.reached([0, 20]);
+}
+
+#[test]
+fn damaged_rotas() {
+    let tally = tallied("listed damaged_rotas", 1_800, |case, tally| {
+        let rota = any_rota(&mut case.random);
+        let input = match case.random.below(8) {
+            0 => {
                 let len = case.random.below(300) as usize;
                 case.random.bytes(len)
             }
             _ => generate::damaged_rota(&mut case.random, &rota),
         };
-        let how = match case.random.below(40) {
-            0 => Feed::Pieces(case.random.between(1, 200) as usize),
-            _ => Feed::AtOnce,
-        };
+        let how = any_feed(&mut case.random);
         compare_fed(case, tally, &input, how);
     });
-    tally.reached((0..=12).chain([20]));
+    tally.reached(0..=12);
 }
