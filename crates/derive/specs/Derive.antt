@@ -1,5 +1,5 @@
 -- The derived roles of one role in the order in which they come, and the mark of each field.
-use Prim.Native.Nat.{ℕ, suc, _+_, _≤_}
+use Prim.Native.Nat.{ℕ, suc, _+_, _*_, _≤_}
 use mathlib.Core.Path.{_≡_}
 use mathlib.Core.Option.{Option, none, some}
 use mathlib.Core.List.{List, [], _∷_}
@@ -47,14 +47,14 @@ pub record Marked (source : ℕ) (kept : Option Entry) (d : ℕ) (us ps us′ ps
   pub small : m ≤ d + 1
   pub entries-then : entriesTo source (grown d m) us′ ps′ ≡ nextEntries (entriesTo source d us ps) kept
 
--- the lists have n places, the links two for each, and a mark fits two bytes
+-- the lists have n places, the links two for each and 512, and a mark fits two bytes
 pub record Room (n : ℕ) (masks us ps marks links : List ℕ) : Type 0 where
   pub few : n ≤ 33345
   pub for-masks : n ≤ length masks
   pub for-users : n ≤ length us
   pub for-permissions : n ≤ length ps
   pub for-marks : n ≤ length marks
-  pub for-links : n + n ≤ length links
+  pub for-links : 512 + 2 * n ≤ length links
 
 abbrev pub roleMade : ℕ → ℕ → List ℕ → List ℕ → Role
 roleMade source on users permissions = record { source = source; on = on; users = users; permissions = permissions }

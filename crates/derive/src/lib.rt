@@ -1,6 +1,6 @@
 // One role's derived roles: the distinct pairs of sets that it has in the fields, in the order in which they come, and which one each field has.
 ghost use mathlib.Core.Path.{_≡_};
-ghost use Prim.Native.Nat.{_+_, _<_, _≤_};
+ghost use Prim.Native.Nat.{_+_, _*_, _<_, _≤_};
 ghost use lib.ListN.{length};
 ghost use Rattle.index.specs.Tree.{Within, Indexed};
 ghost use Rattle.derive.specs.Role.{usedIn, unionOf, setsMade, keptWith, Gathered};
@@ -111,7 +111,7 @@ fn mark_field(
     b: u64,
     d: usize,
 ) -> usize
-    requires { ⌜ (d < length (now us)) × (d < length (now ps)) × (d + d + 1 < length (now links)) × (d < 33345) ⌝ }
+    requires { ⌜ (d < length (now us)) × (d < length (now ps)) × (512 + 2 * d + 1 < length (now links)) × (d < 33345) ⌝ }
     requires { ⌜ Indexed d (now us) (now ps) (now links) a b × Within (x .users) a × Within (x .permissions) b ⌝ }
     ensures { λ m. ⌜ Marked source (keptWith source x) d (now (us .entry)) (now (ps .entry)) (now (us .exit)) (now (ps .exit)) m
         × Indexed (grown d m) (now (us .exit)) (now (ps .exit)) (now (links .exit)) a b ⌝ }
@@ -150,6 +150,7 @@ pub fn derive(
     let permission_slots = used_in(&permissions);
     let a = union_in(&users, user_slots, user_slots);
     let b = union_in(&permissions, permission_slots, permission_slots);
+    index::clear(links);
     let mut d = 0;
     let mut rows = 0;
     let mut i = 0;

@@ -1,9 +1,10 @@
--- The turns by which a pair is sought: one for each member that a pair can have, taken one by one; together they tell the pair from any other.
+-- Where the walk that seeks a pair begins, and its turns: one for each member that a pair can have, taken one by one; together they tell the pair from any other.
 -- Assumes nothing.
-use Prim.Native.Nat.{ℕ, zero, suc, _+_, _<_}
+use Prim.Native.Nat.{ℕ, zero, suc, _+_, _*_, _%_, _<_}
 use mathlib.Core.Path.{_≡_, refl, sym, _∙_, ap, ap₂}
 use mathlib.Core.Bool.{Bool, true, false, not, _&&_, and-false, and-true}
 use mathlib.Core.List.{List, [], _∷_, _++_}
+use native.Mathlib.Nat.{mod-lt}
 use native.Mathlib.Omega.{arith}
 use lib.Dec.{eqb}
 use lib.ListN.{length, take, drop, length-append}
@@ -14,7 +15,7 @@ use Rattle.ground.specs.Search.{one, countBelow}
 use Rattle.ground.proofs.BoolLaws.{clash, eq-ext}
 use Rattle.bitset.specs.Sets.{has, remove, count, Lowest}
 use Rattle.bitset.proofs.SetLaws.{count-low, ext, has-none, has-remove}
-use Rattle.index.specs.Tree.{answers, turnsOf, Turned, Within}
+use Rattle.index.specs.Tree.{answers, turnsOf, Turned, bucketOf, Within}
 
 -- ---- what is said of the numbers that pass
 
@@ -77,6 +78,16 @@ answers-apart (suc n) f g h e j l t =
     go true q r r′ ih e (suc j) l t = ih (cc) j (omega arith) t
     go false q r r′ ih e zero l t = clash (f 0) t q
     go false q r r′ ih e (suc j) l t = ih e j (omega arith) t
+
+-- ---- where a walk begins
+
+pub bucket-is : (u p : ℕ) → ((u % 8191) * 31 + p % 8191) % 512 ≡ bucketOf u p
+unfolding bucketOf
+bucket-is u p = refl
+
+pub bucket-small : (u p : ℕ) → bucketOf u p < 512
+unfolding bucketOf
+bucket-small u p = mod-lt ((u % 8191) * 31 + p % 8191) (omega arith)
 
 -- ---- the turns
 

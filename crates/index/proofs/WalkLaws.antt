@@ -1,167 +1,190 @@
--- The walk through the tree: it goes from pair to pair, and has passed the pair that it seeks only where it has found it.
+-- The walk through the links: it goes from pair to pair, and has passed the pair that it seeks only where it has found it.
 -- Assumes nothing.
-use Prim.Native.Nat.{ℕ, zero, suc, _+_, _*_, _-_, _≤_, _<_}
+use Prim.Native.Nat.{ℕ, zero, suc, _+_, _*_, _≤_, _<_}
 use mathlib.Core.Path.{_≡_, refl, sym, _∙_, ap, ap₂, subst}
 use mathlib.Core.Bool.{Bool, true, false}
-use mathlib.Core.List.{List, [], _∷_}
+use mathlib.Core.List.{List, _∷_}
 use native.Mathlib.Omega.{arith}
 use native.Mathlib.Numerals.{add-one}
 use lib.Dec.{eqb}
 use lib.ListN.{length, getD, drop, length-drop}
 use lib.Seq.{getD-drop, drop-drop, ext-getD}
+use borrow.Author.Count.{below-more}
 use borrow.Author.Tests.{eqb-true, eqb-false}
 use Rattle.ground.specs.Search.{one}
 use Rattle.bitset.specs.Sets.{count}
 use Rattle.index.specs.declared.Turn.{Turn}
-use Rattle.index.specs.Tree.{turnsOf, turnAt, Turned, child, walk, Within, Absent, Reached, Alike, Indexed, Past, Ends}
-use Rattle.index.proofs.TurnLaws.{turns-length, turns-none, one-pair}
+use Rattle.index.specs.Tree.{turnsOf, turnAt, Turned, bucketOf, childAt, Comes, Within, Absent, Reached, Indexed, Ends}
+use Rattle.index.proofs.TurnLaws.{turns-length, turns-none, one-pair, bucket-small}
 
-pub one-small : (b : Bool) → one b < 2
+one-small : (b : Bool) → one b < 2
 one-small true = omega arith
 one-small false = omega arith
 
--- ---- from pair to pair
+-- which side of which pair a place of the links is
+side-of : (j k : ℕ) (s t : Bool) → childAt j s ≡ childAt k t → (j ≡ k) × (s ≡ t)
+side-of j k true true e = (omega arith, refl)
+side-of j k false false e = (omega arith, refl)
+side-of j k true false e = absurd (omega arith)
+side-of j k false true e = absurd (omega arith)
 
-module _ (links : List ℕ) where
-  child-of : (k : ℕ) (side : Bool) → child links (k + 1) side ≡ getD links (2 * k + one side) 0
-  unfolding child
-  child-of k side = ap (λ (c : ℕ). child links c side) (add-one k)
+-- ---- where a walk comes
 
-  child-from : (c : ℕ) (side : Bool) → 0 < child links c side → 0 < c
-  unfolding child
-  child-from zero side h = absurd (omega arith)
-  child-from (suc k) side h = omega arith
+module _ (links : List ℕ) (r : ℕ) (f : ℕ → Bool) where
+  pub comes-start : Comes links r f 0 r
+  unfolding Comes
+  comes-start = refl
 
-  module _ (f : ℕ → Bool) where
-    pub walk-start : walk links f 0 ≡ 1
-    unfolding walk
-    walk-start = refl
+  pub comes-on : (s g : ℕ) → Comes links r f s g → (h k : ℕ) → getD links g 0 ≡ k + 1 → h ≡ childAt k (f s) → Comes links r f (suc s) h
+  unfolding Comes
+  comes-on s g c h k l e = (g, k, c, l, e)
 
-    walk-step : (s : ℕ) → walk links f (suc s) ≡ child links (walk links f s) (f s)
-    unfolding walk
-    walk-step s = refl
+  -- to one place
+  comes-same : (s g h : ℕ) → Comes links r f s g → Comes links r f s h → g ≡ h
+  unfolding Comes
+  comes-same zero g h c w = c ∙ sym w
+  comes-same (suc s) g h c w =
+      let q : c .0 ≡ w .0 = comes-same s (c .0) (w .0) (c .2) (w .2) in
+      let z : c .1 + 1 ≡ w .1 + 1 = sym (c .3) ∙ ap (λ (j : ℕ). getD links j 0) q ∙ w .3 in
+      let y : c .1 ≡ w .1 = omega arith in
+      c .4 ∙ ap (λ (j : ℕ). childAt j (f s)) y ∙ sym (w .4)
 
-    pub walk-next : (s k : ℕ) → walk links f s ≡ k + 1 → walk links f (suc s) ≡ getD links (2 * k + one (f s)) 0
-    walk-next s k e = walk-step s ∙ ap (λ (c : ℕ). child links c (f s)) e ∙ child-of k (f s)
+  -- by links that lead on
+  comes-through : (t h i : ℕ) → Comes links r f t h → getD links h 0 ≡ i + 1 → (s g : ℕ) → s ≤ t → Comes links r f s g → 0 < getD links g 0
+  unfolding Comes
+  comes-through zero h i c l s g q w =
+      let z : s ≡ 0 = omega arith in
+      let y : g ≡ h = comes-same 0 g h (subst (λ (j : ℕ). Comes links r f j g) z w) c in
+      omega (arith, ap (λ (j : ℕ). getD links j 0) y)
+  comes-through (suc t) h i c l s g q w = go (eqb s (suc t)) refl (λ (z : s ≤ t). comes-through t (c .0) (c .1) (c .2) (c .3) s g z w)
+    where
+      go : (b : Bool) → eqb s (suc t) ≡ b → (s ≤ t → 0 < getD links g 0) → 0 < getD links g 0
+      go true e ih =
+          let y : g ≡ h = comes-same (suc t) g h (subst (λ (j : ℕ). Comes links r f j g) (eqb-true s (suc t) e) w) c in
+          omega (arith, ap (λ (j : ℕ). getD links j 0) y)
+      go false e ih = let ne : s ≡ suc t → ⊥ = eqb-false s (suc t) e in ih (omega arith)
 
-    -- a walk that is past the last stays so
-    walk-before : (s : ℕ) → 0 < walk links f (suc s) → 0 < walk links f s
-    walk-before s h = child-from (walk links f s) (f s) (omega (arith, walk-step s))
+module _ {d : ℕ} {us ps links : List ℕ} {a b : ℕ} (x : Indexed d us ps links a b) where
+  pub comes-below : (r : ℕ) → r < 512 → (f : ℕ → Bool) (s h : ℕ) → Comes links r f s h → h < 512 + 2 * d
+  unfolding Comes
+  comes-below r z f zero h c = omega arith
+  comes-below r z f (suc s) h c = omega (arith, x .below (c .0) (comes-below r z f s (c .0) (c .2)), c .3, c .4, one-small (f s))
 
-    pub walk-until : (s t : ℕ) → s ≤ t → 0 < walk links f t → 0 < walk links f s
-    walk-until s zero h z = subst (λ (j : ℕ). 0 < walk links f j) (let e : 0 ≡ s = omega arith in e) z
-    walk-until s (suc t) h z = go (eqb s (suc t)) refl (λ (l : s ≤ t). walk-until s t l (walk-before t z))
-      where
-        go : (q : Bool) → eqb s (suc t) ≡ q → (s ≤ t → 0 < walk links f s) → 0 < walk links f s
-        go true e ih = subst (λ (j : ℕ). 0 < walk links f j) (sym (eqb-true s (suc t) e)) z
-        go false e ih = let ne : s ≡ suc t → ⊥ = eqb-false s (suc t) e in ih (omega arith)
-
-    -- a walk that stands at a pair came from another
-    pub walk-from : (s c : ℕ) → walk links f (suc s) ≡ c + 1 → (k : ℕ) × (walk links f s ≡ k + 1) × (getD links (2 * k + one (f s)) 0 ≡ c + 1)
-    walk-from s c e =
-        let h : walk links f s ≡ (walk links f s - 1) + 1 = omega (arith, walk-before s (omega arith)) in
-        (walk links f s - 1, h, sym (walk-next s (walk links f s - 1) h) ∙ e)
+  -- there is one way to a place
+  one-way : (q r : ℕ) → q < 512 → r < 512 → (f g : ℕ → Bool) (s t h : ℕ) → Comes links q f s h → Comes links r g t h → (s ≡ t) × ((i : ℕ) → i < s → f i ≡ g i)
+  unfolding Comes
+  one-way q r hq hr f g zero zero h c w = (refl, λ i l. absurd (omega arith))
+  one-way q r hq hr f g zero (suc t) h c w = absurd (omega (arith, w .4))
+  one-way q r hq hr f g (suc s) zero h c w = absurd (omega (arith, c .4))
+  one-way q r hq hr f g (suc s) (suc t) h c w =
+      let o = side-of (c .1) (w .1) (f s) (g t) (sym (c .4) ∙ w .4) in
+      let e : c .0 ≡ w .0
+      = x .single (c .0) (w .0) (c .1) (comes-below q hq f s (c .0) (c .2)) (comes-below r hr g t (w .0) (w .2)) (c .3) (w .3 ∙ ap (λ (j : ℕ). j + 1) (sym (o .0))) in
+      let i = one-way q r hq hr f g s t (c .0) (c .2) (subst (Comes links r g t) (sym e) (w .2)) in (
+        ap suc (i .0),
+        λ j l. below-more (λ (n : ℕ). f n ≡ g n) s (i .1) (o .1 ∙ ap g (sym (i .0))) j (omega arith),
+      )
 
 -- ---- the walk that seeks u and p
 
--- it stands at pair k, with rest-a and rest-b left to go by, and has not passed what it seeks
-pub record Seeking (n : ℕ) (us ps links : List ℕ) (a b u p rest-a rest-b k : ℕ) : Type 0 where
-  pub below : k < n
+-- it stands at a place of the links, with rest-a and rest-b left to go by, and has not passed what it seeks
+pub record Seeking (n : ℕ) (us ps links : List ℕ) (a b u p rest-a rest-b hook : ℕ) : Type 0 where
   pub steps : ℕ
-  pub stands : walk links (turnAt a b u p) steps ≡ k + 1
+  pub comes : Comes links (bucketOf u p) (turnAt a b u p) steps hook
   pub left : drop steps (turnsOf a b u p) ≡ turnsOf rest-a rest-b u p
-  pub ahead : (i t : ℕ) → i < n → getD us i 0 ≡ u → getD ps i 0 ≡ p → walk links (turnAt a b u p) t ≡ i + 1 → steps ≤ t
+  pub ahead : (i t h : ℕ) → i < n → getD us i 0 ≡ u → getD ps i 0 ≡ p → Comes links (bucketOf u p) (turnAt a b u p) t h → getD links h 0 ≡ i + 1 → steps ≤ t
 
-pub seek-start : (n : ℕ) (us ps links : List ℕ) (a b u p : ℕ) → (n ≡ 0 → ⊥) → Seeking n us ps links a b u p a b 0
-seek-start n us ps links a b u p h =
-    record { below = omega arith; steps = 0; stands = walk-start links (turnAt a b u p); left = refl; ahead = λ i t l eu ep e. omega arith }
+pub seek-start : (n : ℕ) (us ps links : List ℕ) (a b u p hook : ℕ) → hook ≡ bucketOf u p → Seeking n us ps links a b u p a b hook
+seek-start n us ps links a b u p hook e =
+    subst (Seeking n us ps links a b u p a b) (sym e)
+    (record { steps = 0; comes = comes-start links (bucketOf u p) (turnAt a b u p); left = refl; ahead = λ i t h l eu ep c q. omega arith })
 
-module _ {n : ℕ} {us ps links : List ℕ} {a b u p rest-a rest-b k : ℕ} (x : Indexed n us ps links a b) (wu : Within u a) (wp : Within p b)
-    (s : Seeking n us ps links a b u p rest-a rest-b k) (other : getD us k 0 ≡ u → getD ps k 0 ≡ p → ⊥) where
-  -- some member is left, since all together would have told pair k from u and p
-  pub some-left : rest-a ≡ 0 → rest-b ≡ 0 → ⊥
-  some-left za zb =
-      let r = x .leads k (s .below) in
-      let w = x .one-way (turnAt a b u p) (turnAt a b (getD us k 0) (getD ps k 0)) (s .steps) (r .steps) k (s .below) (s .stands) (r .arrives) in
-      let done : length (drop (s .steps) (turnsOf a b u p)) ≡ 0 = ap length (s .left ∙ turns-none rest-a rest-b u p za zb) in
-      let e : turnsOf a b u p ≡ turnsOf a b (getD us k 0) (getD ps k 0)
-      = ext-getD false (turnsOf a b u p) (turnsOf a b (getD us k 0) (getD ps k 0)) (turns-length a b u p ∙ sym (turns-length a b (getD us k 0) (getD ps k 0)))
-      (λ i h. w .turns i (omega (arith, length-drop (s .steps) (turnsOf a b u p)))) in
-      let q = one-pair a b u p (getD us k 0) (getD ps k 0) wu (x .users-within k (s .below)) wp (x .permissions-within k (s .below)) e in
-      other (sym (q .0)) (sym (q .1))
+module _ {n : ℕ} {us ps links : List ℕ} {a b u p rest-a rest-b hook : ℕ} (x : Indexed n us ps links a b) (s : Seeking n us ps links a b u p rest-a rest-b hook) where
+  pub hook-below : hook < 512 + 2 * n
+  hook-below = comes-below x (bucketOf u p) (bucket-small u p) (turnAt a b u p) (s .steps) hook (s .comes)
 
-  -- what it seeks is further on
-  ahead-on : (i t : ℕ) → i < n → getD us i 0 ≡ u → getD ps i 0 ≡ p → walk links (turnAt a b u p) t ≡ i + 1 → suc (s .steps) ≤ t
-  ahead-on i t h eu ep e =
-      let ne : t ≡ s .steps → ⊥
-      = λ q.
-      let z : i + 1 ≡ k + 1 = sym e ∙ ap (walk links (turnAt a b u p)) q ∙ s .stands in
-      let y : i ≡ k = omega arith in
-      other (ap (λ (j : ℕ). getD us j 0) (sym y) ∙ eu) (ap (λ (j : ℕ). getD ps j 0) (sym y) ∙ ep) in
-      omega (arith, s .ahead i t h eu ep e)
+  pub link-below : getD links hook 0 ≤ n
+  link-below = x .below hook hook-below
 
-  module _ {t : Turn} (w : Turned rest-a rest-b u p t) where
-    turn-here : turnAt a b u p (s .steps) ≡ w .bit
-    turn-here =
-        ap (λ (i : ℕ). getD (turnsOf a b u p) i false) (let e : s .steps ≡ s .steps + 0 = omega arith in e)
-        ∙ sym (getD-drop (s .steps) (turnsOf a b u p) 0 false)
-        ∙ ap (λ (l : List Bool). getD l 0 false) (s .left ∙ w .first)
+  -- it ends here
+  pub seek-end : getD links hook 0 ≡ 0 → Absent n us ps u p × Ends n links a b u p hook
+  seek-end z = (
+    record {
+      nowhere =
+          λ i hi eu ep.
+          let r = x .leads i hi in
+          let c : Comes links (bucketOf u p) (turnAt a b u p) (r .steps) (r .place)
+          = subst (λ (v : ℕ). Comes links (bucketOf v p) (turnAt a b v p) (r .steps) (r .place)) eu
+          (subst (λ (q : ℕ). Comes links (bucketOf (getD us i 0) q) (turnAt a b (getD us i 0) q) (r .steps) (r .place)) ep (r .comes)) in
+          absurd (omega (
+            arith,
+            comes-through links (bucketOf u p) (turnAt a b u p) (r .steps) (r .place) i c (r .link) (s .steps) hook
+                (s .ahead i (r .steps) (r .place) hi eu ep c (r .link)) (s .comes),
+          ));
+    },
+    record { within = hook-below; steps = s .steps; comes = s .comes; free = z },
+  )
 
-    left-on : drop (suc (s .steps)) (turnsOf a b u p) ≡ turnsOf (t .users) (t .permissions) u p
-    left-on =
-        ap (λ (i : ℕ). drop i (turnsOf a b u p)) (sym (add-one (s .steps)))
-        ∙ sym (drop-drop 1 (s .steps) (turnsOf a b u p))
-        ∙ ap (drop 1) (s .left ∙ w .first)
+  -- at pair k, which is another
+  module _ (k : ℕ) (link : getD links hook 0 ≡ k + 1) (other : getD us k 0 ≡ u → getD ps k 0 ≡ p → ⊥) where
+    k-below : k < n
+    k-below = omega (arith, link-below)
 
-    -- the place of the links that it looks at, and what is there
-    hook-is : 2 * k + t .side ≡ 2 * k + one (turnAt a b u p (s .steps))
-    hook-is = ap (λ (i : ℕ). 2 * k + i) (w .to ∙ ap one (sym turn-here))
+    -- some member is left, since all together would have told pair k from u and p
+    pub some-left : Within u a → Within p b → rest-a ≡ 0 → rest-b ≡ 0 → ⊥
+    some-left wu wp za zb =
+        let r = x .leads k k-below in
+        let v = getD us k 0 in
+        let q = getD ps k 0 in
+        let e : r .place ≡ hook
+        = x .single (r .place) hook k (comes-below x (bucketOf v q) (bucket-small v q) (turnAt a b v q) (r .steps) (r .place) (r .comes)) hook-below (r .link) link in
+        let w = one-way x (bucketOf u p) (bucketOf v q) (bucket-small u p) (bucket-small v q) (turnAt a b u p) (turnAt a b v q) (s .steps) (r .steps) hook
+        (s .comes) (subst (Comes links (bucketOf v q) (turnAt a b v q) (r .steps)) e (r .comes)) in
+        let done : length (drop (s .steps) (turnsOf a b u p)) ≡ 0 = ap length (s .left ∙ turns-none rest-a rest-b u p za zb) in
+        let t : turnsOf a b u p ≡ turnsOf a b v q
+        = ext-getD false (turnsOf a b u p) (turnsOf a b v q) (turns-length a b u p ∙ sym (turns-length a b v q))
+        (λ i h. w .1 i (omega (arith, length-drop (s .steps) (turnsOf a b u p)))) in
+        let o = one-pair a b u p v q wu (x .users-within k k-below) wp (x .permissions-within k k-below) t in
+        other (sym (o .0)) (sym (o .1))
 
-    pub hook-below : 2 * k + t .side < n + n
-    hook-below = omega (arith, s .below, w .to, one-small (w .bit))
+    -- what it seeks is further on
+    ahead-on : (i t h : ℕ) → i < n → getD us i 0 ≡ u → getD ps i 0 ≡ p → Comes links (bucketOf u p) (turnAt a b u p) t h → getD links h 0 ≡ i + 1 → suc (s .steps) ≤ t
+    ahead-on i t h hi eu ep c l =
+        let ne : t ≡ s .steps → ⊥
+        = λ q.
+        let z : h ≡ hook
+        = comes-same links (bucketOf u p) (turnAt a b u p) (s .steps) h hook (subst (λ (j : ℕ). Comes links (bucketOf u p) (turnAt a b u p) j h) q c) (s .comes) in
+        let y : i ≡ k = omega (arith, ap (λ (j : ℕ). getD links j 0) z) in
+        other (ap (λ (j : ℕ). getD us j 0) (sym y) ∙ eu) (ap (λ (j : ℕ). getD ps j 0) (sym y) ∙ ep) in
+        omega (arith, s .ahead i t h hi eu ep c l)
 
-    pub link-below : getD links (2 * k + t .side) 0 ≤ n
-    link-below = omega (arith, ap (λ (i : ℕ). getD links (2 * k + i) 0) (w .to), x .below k (w .bit) (s .below))
+    module _ {t : Turn} (w : Turned rest-a rest-b u p t) where
+      turn-here : turnAt a b u p (s .steps) ≡ w .bit
+      turn-here =
+          ap (λ (i : ℕ). getD (turnsOf a b u p) i false) (let e : s .steps ≡ s .steps + 0 = omega arith in e)
+          ∙ sym (getD-drop (s .steps) (turnsOf a b u p) 0 false)
+          ∙ ap (λ (l : List Bool). getD l 0 false) (s .left ∙ w .first)
 
-    link-next : walk links (turnAt a b u p) (suc (s .steps)) ≡ getD links (2 * k + t .side) 0
-    link-next = walk-next links (turnAt a b u p) (s .steps) k (s .stands) ∙ ap (λ (i : ℕ). getD links i 0) (sym hook-is)
+      left-on : drop (suc (s .steps)) (turnsOf a b u p) ≡ turnsOf (t .users) (t .permissions) u p
+      left-on =
+          ap (λ (i : ℕ). drop i (turnsOf a b u p)) (sym (add-one (s .steps)))
+          ∙ sym (drop-drop 1 (s .steps) (turnsOf a b u p))
+          ∙ ap (drop 1) (s .left ∙ w .first)
 
-    -- each turn takes one member
-    pub left-falls : (count (t .users) + count (t .permissions)) + 1 ≡ count rest-a + count rest-b
-    left-falls =
-        omega (arith, turns-length (t .users) (t .permissions) u p, turns-length rest-a rest-b u p, ap length (w .first))
+      pub side-small : t .side < 2
+      side-small = omega (arith, w .to, one-small (w .bit))
 
-    pub seek-on : (c : ℕ) → c ≡ getD links (2 * k + t .side) 0 → (c ≡ 0 → ⊥) → Seeking n us ps links a b u p (t .users) (t .permissions) (c - 1)
-    seek-on c e nz =
-        record {
-          below = omega (arith, link-below);
-          steps = suc (s .steps);
-          stands = omega (arith, link-next);
-          left = left-on;
-          ahead = ahead-on;
-        }
+      -- each turn takes one member
+      pub left-falls : (count (t .users) + count (t .permissions)) + 1 ≡ count rest-a + count rest-b
+      left-falls = omega (arith, turns-length (t .users) (t .permissions) u p, turns-length rest-a rest-b u p, ap length (w .first))
 
-    -- it goes past the last here
-    pub seek-past : getD links (2 * k + t .side) 0 ≡ 0 → Absent n us ps u p × Ends n links a b u p (2 * k + t .side)
-    seek-past z = (
-      record {
-        nowhere =
-            λ i hi eu ep.
-            let r = x .leads i hi in
-            let e : walk links (turnAt a b u p) (r .steps) ≡ i + 1 = ap₂ (λ (v q : ℕ). walk links (turnAt a b v q) (r .steps)) (sym eu) (sym ep) ∙ r .arrives in
-            absurd (omega (
-              arith,
-              walk-until links (turnAt a b u p) (suc (s .steps)) (r .steps) (ahead-on i (r .steps) hi eu ep e) (omega (arith, e)),
-              link-next,
-            ));
-      },
-      record {
-        within = omega (arith, hook-below);
-        past = λ _. record { steps = s .steps; last = k; last-below = s .below; stands = s .stands; place = hook-is; free = z };
-      },
-    )
-
--- where there are no pairs
-pub seek-none : (n : ℕ) (us ps links : List ℕ) (a b u p : ℕ) → n ≡ 0 → Absent n us ps u p × Ends n links a b u p 0
-seek-none n us ps links a b u p z =
-    (record { nowhere = λ i hi eu ep. absurd (omega arith) }, record { within = omega arith; past = λ h. absurd (omega arith) })
+      pub seek-on : Seeking n us ps links a b u p (t .users) (t .permissions) (512 + 2 * k + t .side)
+      seek-on =
+          record {
+            steps = suc (s .steps);
+            comes =
+                comes-on links (bucketOf u p) (turnAt a b u p) (s .steps) hook (s .comes) (512 + 2 * k + t .side) k link
+                (ap (λ (i : ℕ). 512 + 2 * k + i) (w .to ∙ ap one (sym turn-here)));
+            left = left-on;
+            ahead = ahead-on;
+          }

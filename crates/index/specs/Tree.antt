@@ -1,5 +1,5 @@
 -- What the steps promise each other of the tree: the walk that seeks a pair of sets, and where it leads.
-use Prim.Native.Nat.{ℕ, zero, suc, _+_, _*_, _^_, _≤_, _<_}
+use Prim.Native.Nat.{ℕ, zero, suc, _+_, _*_, _%_, _^_, _≤_, _<_}
 use mathlib.Core.Bool.{Bool, true, false}
 use mathlib.Core.Path.{_≡_}
 use mathlib.Core.List.{List, [], _∷_, _++_}
@@ -30,15 +30,18 @@ pub record Turned (a b u p : ℕ) (t : Turn) : Type 0 where
   pub to : t .side ≡ one bit
   pub first : turnsOf a b u p ≡ bit ∷ turnsOf (t .users) (t .permissions) u p
 
--- one more than a child of the pair that c is one more than, or 0
-unfoldable pub child : List ℕ → ℕ → Bool → ℕ
-child links zero side = 0
-child links (suc k) side = getD links (2 * k + one side) 0
+-- the place of the links where the walk that seeks u and p begins, one of 512; which one is of no matter to what is promised
+unfoldable pub bucketOf : ℕ → ℕ → ℕ
+bucketOf u p = ((u % 8191) * 31 + p % 8191) % 512
 
--- where a walk with the turns f stands after s of them: one more than the pair, or 0 where it has gone past the last
-unfoldable pub walk : List ℕ → (ℕ → Bool) → ℕ → ℕ
-walk links f zero = 1
-walk links f (suc s) = child links (walk links f s) (f s)
+-- the place of the links that has a child of pair k
+abbrev pub childAt : ℕ → Bool → ℕ
+childAt k side = 512 + 2 * k + one side
+
+-- a walk from place r with the turns f comes to place h after s of them, where each link on the way has one more than a pair
+unfoldable pub Comes : List ℕ → ℕ → (ℕ → Bool) → ℕ → ℕ → Type 0
+Comes links r f zero h = h ≡ r
+Comes links r f (suc s) h = (g : ℕ) × (k : ℕ) × Comes links r f s g × (getD links g 0 ≡ k + 1) × (h ≡ childAt k (f s))
 
 -- a set of 64 has only members of a
 pub record Within (x a : ℕ) : Type 0 where
@@ -52,35 +55,25 @@ pub record Absent (d : ℕ) (us ps : List ℕ) (u p : ℕ) : Type 0 where
 -- the walk that seeks u and p comes to pair i
 pub record Reached (links : List ℕ) (a b u p i : ℕ) : Type 0 where
   pub steps : ℕ
-  pub arrives : walk links (turnAt a b u p) steps ≡ i + 1
+  pub place : ℕ
+  pub comes : Comes links (bucketOf u p) (turnAt a b u p) steps place
+  pub link : getD links place 0 ≡ i + 1
 
--- two walks have come by the same turns
-pub record Alike (f g : ℕ → Bool) (s t : ℕ) : Type 0 where
-  pub long : s ≡ t
-  pub turns : (r : ℕ) → r < s → f r ≡ g r
-
--- the first d pairs are distinct and within a and b, links lead to them alone, there is one way to each, and the walk that seeks it takes it
+-- the first d pairs are distinct and within a and b, links lead to them alone, no two to one pair, and the walk that seeks a pair comes to it
 pub record Indexed (d : ℕ) (us ps links : List ℕ) (a b : ℕ) : Type 0 where
   pub distinct : (k : ℕ) → k < d → Absent k us ps (getD us k 0) (getD ps k 0)
   pub users-within : (k : ℕ) → k < d → Within (getD us k 0) a
   pub permissions-within : (k : ℕ) → k < d → Within (getD ps k 0) b
-  pub below : (k : ℕ) (side : Bool) → k < d → getD links (2 * k + one side) 0 ≤ d
-  pub one-way : (f g : ℕ → Bool) (s t k : ℕ) → k < d → walk links f s ≡ k + 1 → walk links g t ≡ k + 1 → Alike f g s t
+  pub below : (h : ℕ) → h < 512 + 2 * d → getD links h 0 ≤ d
+  pub single : (g h k : ℕ) → g < 512 + 2 * d → h < 512 + 2 * d → getD links g 0 ≡ k + 1 → getD links h 0 ≡ k + 1 → g ≡ h
   pub leads : (k : ℕ) → k < d → Reached links a b (getD us k 0) (getD ps k 0) k
 
--- the walk that seeks u and p goes past the last at this place of the links
-pub record Past (d : ℕ) (links : List ℕ) (a b u p hook : ℕ) : Type 0 where
-  pub steps : ℕ
-  pub last : ℕ
-  pub last-below : last < d
-  pub stands : walk links (turnAt a b u p) steps ≡ last + 1
-  pub place : hook ≡ 2 * last + one (turnAt a b u p steps)
-  pub free : getD links hook 0 ≡ 0
-
--- where a next pair is linked: there, or nowhere where it is the first
+-- the walk that seeks u and p ends at this place of the links
 pub record Ends (d : ℕ) (links : List ℕ) (a b u p hook : ℕ) : Type 0 where
-  pub within : hook ≤ 2 * d
-  pub past : 0 < d → Past d links a b u p hook
+  pub within : hook < 512 + 2 * d
+  pub steps : ℕ
+  pub comes : Comes links (bucketOf u p) (turnAt a b u p) steps hook
+  pub free : getD links hook 0 ≡ 0
 
 -- a pair is found; or it is not there, and its walk has ended
 pub record Sought (n : ℕ) (us ps links : List ℕ) (a b u p : ℕ) (f : Found) : Type 0 where

@@ -1,15 +1,16 @@
-// Pairs of sets in the order in which they first come, each once, and a digital search tree (Coffman and Eve, 1970) that finds a pair among them. The pairs
-// themselves are the nodes: pair 0 is the root, and places 2 k and 2 k + 1 of the links have the two children of pair k, each as one more than its place, or
-// 0 where there is none. A walk turns at each pair by one member, of those that any pair can have, and goes on without it: however the pairs
-// are chosen, it looks at no more of them than there are such members, and one.
+// Pairs of sets in the order in which they first come, each once, and an index that finds a pair among them: 512 digital search trees (Coffman and Eve,
+// 1970), over which the pairs are spread. The pairs themselves are the nodes. The first 512 places of the links have the roots, and places 512 + 2 k and
+// 513 + 2 k the two children of pair k, each as one more than its place, or 0 where there is none. A walk turns at each pair by one member, of those
+// that any pair can have, and goes on without it: however the pairs are chosen, it looks at no more of them than there are such members, and one.
 ghost use mathlib.Core.Path.{_≡_};
-ghost use Prim.Native.Nat.{_+_, _<_, _≤_};
+ghost use mathlib.Core.List.{List};
+ghost use Prim.Native.Nat.{ℕ, _+_, _*_, _<_, _≤_};
 ghost use lib.ListN.{length, set};
 ghost use Rattle.ground.specs.Search.{one};
 ghost use Rattle.bitset.specs.Sets.{has};
 ghost use Rattle.table.specs.Answers.{entryMade};
 ghost use Rattle.index.specs.Entries.{Entered, after};
-ghost use Rattle.index.specs.Tree.{Turned, Within, Indexed, Absent, Ends, Sought};
+ghost use Rattle.index.specs.Tree.{Turned, bucketOf, Within, Indexed, Absent, Ends, Sought};
 
 // A turn of a walk: to which side, and which members are left to go by.
 pub struct Turn {
@@ -54,33 +55,37 @@ fn next_turn(a: u64, b: u64, u: u64, p: u64) -> Turn
     }
 }
 
+// The tree of u and p.
+fn bucket(u: u64, p: u64) -> usize
+    ensures { λ b. ⌜ (b ≡ bucketOf u p) × (b < 512) ⌝ }
+{
+    (((u % 8191) * 31 + p % 8191) % 512) as usize
+}
+
 // Where u and p stand among the first n pairs; or n, and where the walk that seeks them ends.
 fn find(us: &[u64], ps: &[u64], links: &[u16], a: u64, b: u64, n: usize, u: u64, p: u64) -> Found
-    requires { ⌜ (n ≤ length (now us)) × (n ≤ length (now ps)) × (n + n ≤ length (now links)) × (n < 33345) ⌝ }
+    requires { ⌜ (n ≤ length (now us)) × (n ≤ length (now ps)) × (512 + 2 * n ≤ length (now links)) × (n < 33345) ⌝ }
     requires { ⌜ Indexed n (now us) (now ps) (now links) a b × Within u a × Within p b ⌝ }
     ensures { λ f. ⌜ Sought n (now (us .entry)) (now (ps .entry)) (now (links .entry)) a b u p f ⌝ }
 {
-    if n == 0 {
-        return Found { place: 0, hook: 0 };
-    }
     let mut rest_a = a;
     let mut rest_b = b;
-    let mut k = 0;
+    let mut hook = bucket(u, p);
     loop {
-        if us[k] == u {
-            if ps[k] == p {
-                return Found { place: k, hook: 0 };
-            }
-        }
-        let t = next_turn(rest_a, rest_b, u, p);
-        let hook = 2 * k + t.side;
         let c = links[hook] as usize;
         if c == 0 {
             return Found { place: n, hook };
         }
+        let k = c - 1;
+        if us[k] == u {
+            if ps[k] == p {
+                return Found { place: k, hook };
+            }
+        }
+        let t = next_turn(rest_a, rest_b, u, p);
+        hook = 512 + 2 * k + t.side;
         rest_a = t.users;
         rest_b = t.permissions;
-        k = c - 1;
     }
 }
 
@@ -96,7 +101,7 @@ fn add(
     p: u64,
     hook: usize,
 )
-    requires { ⌜ (d < length (now us)) × (d < length (now ps)) × (d + d + 1 < length (now links)) × (d < 33345) ⌝ }
+    requires { ⌜ (d < length (now us)) × (d < length (now ps)) × (512 + 2 * d + 1 < length (now links)) × (d < 33345) ⌝ }
     requires { ⌜ Indexed d (now us) (now ps) (now links) a b × Within u a × Within p b × Absent d (now us) (now ps) u p × Ends d (now links) a b u p hook ⌝ }
     ensures { λ _. ⌜ (now (us .exit) ≡ set (now (us .entry)) d u) × (now (ps .exit) ≡ set (now (ps .entry)) d p)
         × Indexed (d + 1) (now (us .exit)) (now (ps .exit)) (now (links .exit)) a b ⌝ }
@@ -104,8 +109,20 @@ fn add(
     us[d] = u;
     ps[d] = p;
     links[hook] = (d + 1) as u16;
-    links[2 * d] = 0;
-    links[2 * d + 1] = 0;
+    links[512 + 2 * d] = 0;
+    links[512 + 2 * d + 1] = 0;
+}
+
+// No pair yet: an index that has none, whatever pairs are to come.
+pub fn clear(links: &mut [u16])
+    requires { ⌜ 512 ≤ length (now links) ⌝ }
+    ensures { λ _. ⌜ ((us ps : List ℕ) (a b : ℕ) → Indexed 0 us ps (now (links .exit)) a b) ⌝ }
+{
+    let mut i = 0;
+    while i < 512 {
+        links[i] = 0;
+        i += 1;
+    }
 }
 
 // Where u and p stand among the first d pairs; where they are not there yet they become the next one, d.
@@ -120,7 +137,7 @@ pub fn enter(
     u: u64,
     p: u64,
 ) -> usize
-    requires { ⌜ (d < length (now us)) × (d < length (now ps)) × (d + d + 1 < length (now links)) × (d < 33345) ⌝ }
+    requires { ⌜ (d < length (now us)) × (d < length (now ps)) × (512 + 2 * d + 1 < length (now links)) × (d < 33345) ⌝ }
     requires { ⌜ Indexed d (now us) (now ps) (now links) a b × Within u a × Within p b ⌝ }
     ensures { λ k. ⌜ Entered source (entryMade source u p) d (now (us .entry)) (now (ps .entry)) (now (us .exit)) (now (ps .exit)) k
         × Indexed (after d k) (now (us .exit)) (now (ps .exit)) (now (links .exit)) a b ⌝ }

@@ -394,7 +394,7 @@ fn rewrite_small(
     let mut us = [0u64; 256];
     let mut ps = [0u64; 256];
     let mut marks = [0u16; 256];
-    let mut links = [0u16; 512];
+    let mut links = [0u16; 1024];
     rewrite_with(
         s,
         l,
@@ -427,7 +427,7 @@ fn rewrite_middle(
     let mut us = [0u64; 4096];
     let mut ps = [0u64; 4096];
     let mut marks = [0u16; 4096];
-    let mut links = [0u16; 8192];
+    let mut links = [0u16; 8704];
     rewrite_with(
         s,
         l,
@@ -461,7 +461,7 @@ fn rewrite_large(
     let mut us = [0u64; 33345];
     let mut ps = [0u64; 33345];
     let mut marks = [0u16; 33345];
-    let mut links = [0u16; 66690];
+    let mut links = [0u16; 67202];
     rewrite_with(
         s,
         l,

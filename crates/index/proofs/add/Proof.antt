@@ -33,6 +33,9 @@ slice-write-links c = omega (arith, c .pre .1 .4 .within)
 mul-links-2 : tie.Need-mul-links-2
 mul-links-2 c = search needs
 
+add-links-2 : tie.Need-add-links-2
+add-links-2 c = search needs
+
 mul-links-3 : tie.Need-mul-links-3
 mul-links-3 c = search needs
 
@@ -42,8 +45,11 @@ slice-write-links-2 c = simp length-set (omega arith)
 mul-links-4 : tie.Need-mul-links-4
 mul-links-4 c = search needs
 
-add-links-2 : tie.Need-add-links-2
-add-links-2 c = search needs
+add-links-3 : tie.Need-add-links-3
+add-links-3 c = search needs
+
+add-links-4 : tie.Need-add-links-4
+add-links-4 c = search needs
 
 mul-links-5 : tie.Need-mul-links-5
 mul-links-5 c = search needs
@@ -76,10 +82,12 @@ add-spec =
     mul-links
     slice-write-links
     mul-links-2
+    add-links-2
     mul-links-3
     slice-write-links-2
     mul-links-4
-    add-links-2
+    add-links-3
+    add-links-4
     mul-links-5
     slice-write-links-3
     same-length
