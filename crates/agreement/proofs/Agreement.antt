@@ -23,9 +23,11 @@ use Rattle.table.specs.TableRefusals.{tableJudged}
 use Rattle.derivation.specs.Rewriting.{rewrite, sizeOf, rewriteJudged, Written, writtenOf, rewriteOutcome, areaAfter}
 use Rattle.derivation.proofs.RewritingTheorems.{means, same-answer, fewest}
 use Rattle.derivation.proofs.TableRewritten.{rewritten-accepted, rewritten-read, rewritten-length}
+use Rattle.lent.specs.declared.Kind.the-variants as Kind
 use Rattle.service.specs.Machine.{Call, fresh, machineStep}
+use Rattle.service.specs.LentStep.{lentStep}
 use Rattle.service.specs.declared.Service.{Service}
-use Rattle.agreement.specs.Demand3.{rotaService, tableService, Demand3}
+use Rattle.agreement.specs.Demand3.{Demand3}
 use Rattle.agreement.proofs.MachineLaws.{run-same, service-is, same-step}
 
 -- the machine on the rewritten table is the machine on the rota
@@ -43,9 +45,9 @@ whole s a =
       rota-accepted = a;
       table-accepted = b;
       table-is = e;
-      on-rota = λ cs. run-same (rotaService s) (machineStep (rota.policyOf (rotaOf s))) (λ σ c. service-is _ _ σ c a) cs fresh;
+      on-rota = λ cs. run-same (lentStep Kind.Rota s) (machineStep (rota.policyOf (rotaOf s))) (λ σ c. service-is _ _ σ c a) cs fresh;
       on-table = λ cs.
-          run-same (tableService (tableBytes (rewrite (rotaOf s)))) (machineStep (rota.policyOf (rotaOf s)))
+          run-same (lentStep Kind.Table (tableBytes (rewrite (rotaOf s)))) (machineStep (rota.policyOf (rotaOf s)))
           (λ σ c. service-is _ _ σ c b ∙ ap (λ (τ : table.Table). machineStep (table.policyOf τ) σ c) e ∙ table-step (rotaOf s) w σ c) cs fresh;
       meaning = λ r t hr ht. means w r t hr ht;
       fewest = λ r hr os rival. fewest w r hr os rival;

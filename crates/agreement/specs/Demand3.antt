@@ -7,30 +7,22 @@ use mathlib.Core.List.{List}
 use lib.Dec.{eqb}
 use lib.ListN.{length}
 use Rattle.minutes.specs.Minutes.{E}
-use Rattle.rota.specs.Rota.{Rota}
-use Rattle.rota.specs.Rota as rota
+use Rattle.rota.specs.Rota.{Rota, policyOf}
 use Rattle.rota.specs.RotaBytes.{rotaOf}
 use Rattle.rota.specs.RotaRefusals.{rotaJudged}
 use Rattle.table.specs.Table.{Entry}
-use Rattle.table.specs.Table as table
 use Rattle.table.specs.TableBytes.{tableOf}
 use Rattle.table.specs.TableRefusals.{tableJudged}
 use Rattle.derivation.specs.Rewriting.{rewrite}
 use Rattle.derivation.specs.Untimed.{Untimed, countOf, Rival}
 use Rattle.derivation.specs.Meaning.{MeansAt}
-use Rattle.service.specs.Machine.{Call, Step, Run, fresh, machineStep, serviceStep, run}
-use Rattle.service.specs.declared.Service.{Service}
-
--- one call of a service on lent bytes: a rota's, and a table's
-abbrev pub rotaService : List ℕ → Service → Call → Step
-rotaService s σ c = serviceStep (rotaJudged s) (rota.policyOf (rotaOf s)) σ c
-
-abbrev pub tableService : List ℕ → Service → Call → Step
-tableService s σ c = serviceStep (tableJudged s) (table.policyOf (tableOf s)) σ c
+use Rattle.lent.specs.declared.Kind.the-variants as Kind
+use Rattle.service.specs.Machine.{Call, Run, fresh, machineStep, run}
+use Rattle.service.specs.LentStep.{lentStep}
 
 -- the plain machine on a rota, fresh, through a list of calls
 abbrev pub machine : Rota → List Call → Run
-machine ρ cs = run (machineStep (rota.policyOf ρ)) fresh cs
+machine ρ cs = run (machineStep (policyOf ρ)) fresh cs
 
 -- of a rota's bytes s and a table's bytes: the rota is accepted and the table is the one that the rules give; for every list of calls, refused
 -- ones included, a fresh service on either gives at each call what the plain machine gives on the rota, and ends in its state; at each minute and
@@ -41,8 +33,8 @@ pub record Demand3 (s bytes : List ℕ) : Type 0 where
   pub rota-accepted : rotaJudged s ≡ 0
   pub table-accepted : tableJudged bytes ≡ 0
   pub table-is : tableOf bytes ≡ rewrite (rotaOf s)
-  pub on-rota : (cs : List Call) → run (rotaService s) fresh cs ≡ machine (rotaOf s) cs
-  pub on-table : (cs : List Call) → run (tableService bytes) fresh cs ≡ machine (rotaOf s) cs
+  pub on-rota : (cs : List Call) → run (lentStep Kind.Rota s) fresh cs ≡ machine (rotaOf s) cs
+  pub on-table : (cs : List Call) → run (lentStep Kind.Table bytes) fresh cs ≡ machine (rotaOf s) cs
   pub meaning : (r t : ℕ) → r < length (rotaOf s .roles) → t < E → MeansAt (rotaOf s) r t
   pub fewest : (r : ℕ) → r < length (rotaOf s .roles) → (os : List Untimed) → Rival (rotaOf s) r os
       → countOf (λ (e : Entry). eqb (e .source) r) (rewrite (rotaOf s) .entries) ≤ countOf (λ (o : Untimed). eqb (o .source) r) os

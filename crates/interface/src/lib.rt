@@ -13,11 +13,13 @@ ghost use Rattle.table.specs.TableBytes.{tableOf};
 ghost use Rattle.table.specs.TableRefusals.{tableJudged};
 ghost use Rattle.table.specs.Answers.{readOutcome as tableRead};
 ghost use Rattle.derivation.specs.Rewriting.{rewriteOutcome, areaAfter};
-ghost use Rattle.service.specs.Machine.{serviceStep, advance, «open», close, ask};
-ghost use Rattle.service.specs.Answers.{advancedStep, changedStep, askedStep};
+ghost use Rattle.lent.specs.declared.Kind.the-variants as Kind;
+ghost use Rattle.service.specs.Machine.{advance, «open», close, ask};
+ghost use Rattle.service.specs.LentStep.{lentStep};
 ghost use Rattle.interface.specs.Told.{telling, questionTold, leaving, steppedBy, rotaTold, tableTold, writtenTold, dateTold, minuteTold};
 use calendar::DateAnswer;
 use calendar::MinuteAnswer;
+use lent::Kind;
 use policy::Answer;
 use rewriting::Rewritten;
 use rota::RotaAnswer;
@@ -269,87 +271,97 @@ fn tell(service: Service, refusal: u32, yes: u32, value: u32) -> Stepped
     }
 }
 
-fn tell_advanced(a: Advanced) -> Stepped
-    ensures { λ r. ⌜ r ≡ steppedBy (advancedStep a) ⌝ }
-{
-    match a {
-        Advanced::Closed(n, service) => tell(service, 0, 0, n),
-        Advanced::Refused(n, service) => tell(service, n as u32, 0, 0),
-    }
-}
-
-fn tell_changed(a: Changed) -> Stepped
-    ensures { λ r. ⌜ r ≡ steppedBy (changedStep a) ⌝ }
-{
-    match a {
-        Changed::Done(service) => tell(service, 0, 0, 0),
-        Changed::Refused(n, service) => tell(service, n as u32, 0, 0),
-    }
-}
-
-fn tell_asked(a: Asked) -> Stepped
-    ensures { λ r. ⌜ r ≡ steppedBy (askedStep a) ⌝ }
-{
-    match a {
-        Asked::Yes(r, service) => tell(service, 0, 1, r as u32),
-        Asked::No(service) => tell(service, 0, 0, 0),
-        Asked::Refused(n, service) => tell(service, n as u32, 0, 0),
-    }
-}
-
 // The calls by value, their answers told in numbers.
-fn rota_advance_told(service: Service, s: &[u8], m: u32) -> Stepped
-    ensures { λ r. ⌜ leaving (r .service) (r .told) ≡ steppedBy (serviceStep (rotaJudged (now (s .entry))) (rotaPolicy (rotaOf (now (s .entry)))) service (advance m)) ⌝ }
+fn advance_told(kind: Kind, service: Service, s: &[u8], m: u32) -> Stepped
+    ensures { λ r. ⌜ r ≡ steppedBy (lentStep kind (now (s .entry)) service (advance m)) ⌝ }
 {
-    tell_advanced(service::rota_advance(s, service, m))
+    match service::advance(kind, s, service, m) {
+        Advanced::Closed(n, after) => tell(after, 0, 0, n),
+        Advanced::Refused(n, after) => tell(after, n as u32, 0, 0),
+    }
+}
+
+fn open_told(kind: Kind, service: Service, s: &[u8], u: u32) -> Stepped
+    ensures { λ r. ⌜ r ≡ steppedBy (lentStep kind (now (s .entry)) service («open» u)) ⌝ }
+{
+    match service::open(kind, s, service, u) {
+        Changed::Done(after) => tell(after, 0, 0, 0),
+        Changed::Refused(n, after) => tell(after, n as u32, 0, 0),
+    }
+}
+
+fn close_told(kind: Kind, service: Service, s: &[u8], u: u32) -> Stepped
+    ensures { λ r. ⌜ r ≡ steppedBy (lentStep kind (now (s .entry)) service (close u)) ⌝ }
+{
+    match service::close(kind, s, service, u) {
+        Changed::Done(after) => tell(after, 0, 0, 0),
+        Changed::Refused(n, after) => tell(after, n as u32, 0, 0),
+    }
+}
+
+fn ask_told(kind: Kind, service: Service, s: &[u8], u: u32, p: u32) -> Stepped
+    ensures { λ r. ⌜ r ≡ steppedBy (lentStep kind (now (s .entry)) service (ask u p)) ⌝ }
+{
+    match service::ask(kind, s, service, u, p) {
+        Asked::Yes(r, after) => tell(after, 0, 1, r as u32),
+        Asked::No(after) => tell(after, 0, 0, 0),
+        Asked::Refused(n, after) => tell(after, n as u32, 0, 0),
+    }
+}
+
+// The same with a rota and with a table, as the calls on a lent record use them.
+fn rota_advance_told(service: Service, s: &[u8], m: u32) -> Stepped
+    ensures { λ r. ⌜ leaving (r .service) (r .told) ≡ steppedBy (lentStep Kind.Rota (now (s .entry)) service (advance m)) ⌝ }
+{
+    advance_told(Kind::Rota, service, s, m)
 }
 
 fn rota_open_told(service: Service, s: &[u8], u: u32) -> Stepped
-    ensures { λ r. ⌜ leaving (r .service) (r .told) ≡ steppedBy (serviceStep (rotaJudged (now (s .entry))) (rotaPolicy (rotaOf (now (s .entry)))) service («open» u)) ⌝ }
+    ensures { λ r. ⌜ leaving (r .service) (r .told) ≡ steppedBy (lentStep Kind.Rota (now (s .entry)) service («open» u)) ⌝ }
 {
-    tell_changed(service::rota_open(s, service, u))
+    open_told(Kind::Rota, service, s, u)
 }
 
 fn rota_close_told(service: Service, s: &[u8], u: u32) -> Stepped
-    ensures { λ r. ⌜ leaving (r .service) (r .told) ≡ steppedBy (serviceStep (rotaJudged (now (s .entry))) (rotaPolicy (rotaOf (now (s .entry)))) service (close u)) ⌝ }
+    ensures { λ r. ⌜ leaving (r .service) (r .told) ≡ steppedBy (lentStep Kind.Rota (now (s .entry)) service (close u)) ⌝ }
 {
-    tell_changed(service::rota_close(s, service, u))
+    close_told(Kind::Rota, service, s, u)
 }
 
 fn rota_ask_told(service: Service, s: &[u8], u: u32, p: u32) -> Stepped
-    ensures { λ r. ⌜ leaving (r .service) (r .told) ≡ steppedBy (serviceStep (rotaJudged (now (s .entry))) (rotaPolicy (rotaOf (now (s .entry)))) service (ask u p)) ⌝ }
+    ensures { λ r. ⌜ leaving (r .service) (r .told) ≡ steppedBy (lentStep Kind.Rota (now (s .entry)) service (ask u p)) ⌝ }
 {
-    tell_asked(service::rota_ask(s, service, u, p))
+    ask_told(Kind::Rota, service, s, u, p)
 }
 
 fn table_advance_told(service: Service, s: &[u8], m: u32) -> Stepped
-    ensures { λ r. ⌜ leaving (r .service) (r .told) ≡ steppedBy (serviceStep (tableJudged (now (s .entry))) (tablePolicy (tableOf (now (s .entry)))) service (advance m)) ⌝ }
+    ensures { λ r. ⌜ leaving (r .service) (r .told) ≡ steppedBy (lentStep Kind.Table (now (s .entry)) service (advance m)) ⌝ }
 {
-    tell_advanced(service::table_advance(s, service, m))
+    advance_told(Kind::Table, service, s, m)
 }
 
 fn table_open_told(service: Service, s: &[u8], u: u32) -> Stepped
-    ensures { λ r. ⌜ leaving (r .service) (r .told) ≡ steppedBy (serviceStep (tableJudged (now (s .entry))) (tablePolicy (tableOf (now (s .entry)))) service («open» u)) ⌝ }
+    ensures { λ r. ⌜ leaving (r .service) (r .told) ≡ steppedBy (lentStep Kind.Table (now (s .entry)) service («open» u)) ⌝ }
 {
-    tell_changed(service::table_open(s, service, u))
+    open_told(Kind::Table, service, s, u)
 }
 
 fn table_close_told(service: Service, s: &[u8], u: u32) -> Stepped
-    ensures { λ r. ⌜ leaving (r .service) (r .told) ≡ steppedBy (serviceStep (tableJudged (now (s .entry))) (tablePolicy (tableOf (now (s .entry)))) service (close u)) ⌝ }
+    ensures { λ r. ⌜ leaving (r .service) (r .told) ≡ steppedBy (lentStep Kind.Table (now (s .entry)) service (close u)) ⌝ }
 {
-    tell_changed(service::table_close(s, service, u))
+    close_told(Kind::Table, service, s, u)
 }
 
 fn table_ask_told(service: Service, s: &[u8], u: u32, p: u32) -> Stepped
-    ensures { λ r. ⌜ leaving (r .service) (r .told) ≡ steppedBy (serviceStep (tableJudged (now (s .entry))) (tablePolicy (tableOf (now (s .entry)))) service (ask u p)) ⌝ }
+    ensures { λ r. ⌜ leaving (r .service) (r .told) ≡ steppedBy (lentStep Kind.Table (now (s .entry)) service (ask u p)) ⌝ }
 {
-    tell_asked(service::table_ask(s, service, u, p))
+    ask_told(Kind::Table, service, s, u, p)
 }
 
 // The four calls on a lent record, with a rota and with a table.
 #[no_mangle]
 pub extern "C" fn softlode_rota_advance(service: &mut Service, s: &[u8], m: u32) -> Told
-    ensures { λ r. ⌜ leaving (now (service .exit)) r ≡ steppedBy (serviceStep (rotaJudged (now (s .entry))) (rotaPolicy (rotaOf (now (s .entry)))) (now (service .entry)) (advance m)) ⌝ }
+    ensures { λ r. ⌜ leaving (now (service .exit)) r ≡ steppedBy (lentStep Kind.Rota (now (s .entry)) (now (service .entry)) (advance m)) ⌝ }
 {
     let r = rota_advance_told(*service, s, m);
     *service = r.service;
@@ -358,7 +370,7 @@ pub extern "C" fn softlode_rota_advance(service: &mut Service, s: &[u8], m: u32)
 
 #[no_mangle]
 pub extern "C" fn softlode_rota_open(service: &mut Service, s: &[u8], u: u32) -> Told
-    ensures { λ r. ⌜ leaving (now (service .exit)) r ≡ steppedBy (serviceStep (rotaJudged (now (s .entry))) (rotaPolicy (rotaOf (now (s .entry)))) (now (service .entry)) («open» u)) ⌝ }
+    ensures { λ r. ⌜ leaving (now (service .exit)) r ≡ steppedBy (lentStep Kind.Rota (now (s .entry)) (now (service .entry)) («open» u)) ⌝ }
 {
     let r = rota_open_told(*service, s, u);
     *service = r.service;
@@ -367,7 +379,7 @@ pub extern "C" fn softlode_rota_open(service: &mut Service, s: &[u8], u: u32) ->
 
 #[no_mangle]
 pub extern "C" fn softlode_rota_close(service: &mut Service, s: &[u8], u: u32) -> Told
-    ensures { λ r. ⌜ leaving (now (service .exit)) r ≡ steppedBy (serviceStep (rotaJudged (now (s .entry))) (rotaPolicy (rotaOf (now (s .entry)))) (now (service .entry)) (close u)) ⌝ }
+    ensures { λ r. ⌜ leaving (now (service .exit)) r ≡ steppedBy (lentStep Kind.Rota (now (s .entry)) (now (service .entry)) (close u)) ⌝ }
 {
     let r = rota_close_told(*service, s, u);
     *service = r.service;
@@ -376,7 +388,7 @@ pub extern "C" fn softlode_rota_close(service: &mut Service, s: &[u8], u: u32) -
 
 #[no_mangle]
 pub extern "C" fn softlode_rota_ask(service: &mut Service, s: &[u8], u: u32, p: u32) -> Told
-    ensures { λ r. ⌜ leaving (now (service .exit)) r ≡ steppedBy (serviceStep (rotaJudged (now (s .entry))) (rotaPolicy (rotaOf (now (s .entry)))) (now (service .entry)) (ask u p)) ⌝ }
+    ensures { λ r. ⌜ leaving (now (service .exit)) r ≡ steppedBy (lentStep Kind.Rota (now (s .entry)) (now (service .entry)) (ask u p)) ⌝ }
 {
     let r = rota_ask_told(*service, s, u, p);
     *service = r.service;
@@ -385,7 +397,7 @@ pub extern "C" fn softlode_rota_ask(service: &mut Service, s: &[u8], u: u32, p: 
 
 #[no_mangle]
 pub extern "C" fn softlode_table_advance(service: &mut Service, s: &[u8], m: u32) -> Told
-    ensures { λ r. ⌜ leaving (now (service .exit)) r ≡ steppedBy (serviceStep (tableJudged (now (s .entry))) (tablePolicy (tableOf (now (s .entry)))) (now (service .entry)) (advance m)) ⌝ }
+    ensures { λ r. ⌜ leaving (now (service .exit)) r ≡ steppedBy (lentStep Kind.Table (now (s .entry)) (now (service .entry)) (advance m)) ⌝ }
 {
     let r = table_advance_told(*service, s, m);
     *service = r.service;
@@ -394,7 +406,7 @@ pub extern "C" fn softlode_table_advance(service: &mut Service, s: &[u8], m: u32
 
 #[no_mangle]
 pub extern "C" fn softlode_table_open(service: &mut Service, s: &[u8], u: u32) -> Told
-    ensures { λ r. ⌜ leaving (now (service .exit)) r ≡ steppedBy (serviceStep (tableJudged (now (s .entry))) (tablePolicy (tableOf (now (s .entry)))) (now (service .entry)) («open» u)) ⌝ }
+    ensures { λ r. ⌜ leaving (now (service .exit)) r ≡ steppedBy (lentStep Kind.Table (now (s .entry)) (now (service .entry)) («open» u)) ⌝ }
 {
     let r = table_open_told(*service, s, u);
     *service = r.service;
@@ -403,7 +415,7 @@ pub extern "C" fn softlode_table_open(service: &mut Service, s: &[u8], u: u32) -
 
 #[no_mangle]
 pub extern "C" fn softlode_table_close(service: &mut Service, s: &[u8], u: u32) -> Told
-    ensures { λ r. ⌜ leaving (now (service .exit)) r ≡ steppedBy (serviceStep (tableJudged (now (s .entry))) (tablePolicy (tableOf (now (s .entry)))) (now (service .entry)) (close u)) ⌝ }
+    ensures { λ r. ⌜ leaving (now (service .exit)) r ≡ steppedBy (lentStep Kind.Table (now (s .entry)) (now (service .entry)) (close u)) ⌝ }
 {
     let r = table_close_told(*service, s, u);
     *service = r.service;
@@ -412,7 +424,7 @@ pub extern "C" fn softlode_table_close(service: &mut Service, s: &[u8], u: u32) 
 
 #[no_mangle]
 pub extern "C" fn softlode_table_ask(service: &mut Service, s: &[u8], u: u32, p: u32) -> Told
-    ensures { λ r. ⌜ leaving (now (service .exit)) r ≡ steppedBy (serviceStep (tableJudged (now (s .entry))) (tablePolicy (tableOf (now (s .entry)))) (now (service .entry)) (ask u p)) ⌝ }
+    ensures { λ r. ⌜ leaving (now (service .exit)) r ≡ steppedBy (lentStep Kind.Table (now (s .entry)) (now (service .entry)) (ask u p)) ⌝ }
 {
     let r = table_ask_told(*service, s, u, p);
     *service = r.service;

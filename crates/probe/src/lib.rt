@@ -2,7 +2,8 @@
 // plain structs.
 use bitset::contains;
 use hours::HoursAnswer;
-use policy::Holders;
+use lent::Kind;
+use lent::Lending;
 use service::Advanced;
 use service::Asked;
 use service::Changed;
@@ -190,27 +191,36 @@ pub struct HolderSet {
     pub users: u64,
 }
 
-fn holders_out(a: Holders) -> HolderSet {
-    match a {
-        Holders::Users(x) => HolderSet {
-            refusal: 0,
-            users: x,
-        },
-        Holders::Refused(n) => HolderSet {
+// Who holds any permission at minute t of lent bytes: their refusal, 33, or the set.
+fn holders(kind: Kind, s: &[u8], t: u32) -> HolderSet {
+    match lent::lend(kind, s) {
+        Lending::Refused(n) => HolderSet {
             refusal: n as u32,
             users: 0,
         },
+        Lending::Lent(source) => {
+            if minutes::END <= t {
+                return HolderSet {
+                    refusal: 33,
+                    users: 0,
+                };
+            }
+            HolderSet {
+                refusal: 0,
+                users: lent::holders_at(s, source, t),
+            }
+        }
     }
 }
 
 #[no_mangle]
 pub extern "C" fn probe_rota_holders(s: &[u8], t: u32) -> HolderSet {
-    holders_out(rota::holders(s, t))
+    holders(Kind::Rota, s, t)
 }
 
 #[no_mangle]
 pub extern "C" fn probe_table_holders(s: &[u8], t: u32) -> HolderSet {
-    holders_out(table::holders(s, t))
+    holders(Kind::Table, s, t)
 }
 
 // What a call of the service gives, and the state after it.
@@ -257,40 +267,40 @@ fn ask_out(a: Asked) -> Stepped {
 
 #[no_mangle]
 pub extern "C" fn probe_rota_advance(s: &[u8], now: u32, open: u64, m: u32) -> Stepped {
-    advance_out(service::rota_advance(s, Service { now, open }, m))
+    advance_out(service::advance(Kind::Rota, s, Service { now, open }, m))
 }
 
 #[no_mangle]
 pub extern "C" fn probe_rota_open(s: &[u8], now: u32, open: u64, u: u32) -> Stepped {
-    change_out(service::rota_open(s, Service { now, open }, u))
+    change_out(service::open(Kind::Rota, s, Service { now, open }, u))
 }
 
 #[no_mangle]
 pub extern "C" fn probe_rota_close(s: &[u8], now: u32, open: u64, u: u32) -> Stepped {
-    change_out(service::rota_close(s, Service { now, open }, u))
+    change_out(service::close(Kind::Rota, s, Service { now, open }, u))
 }
 
 #[no_mangle]
 pub extern "C" fn probe_rota_ask(s: &[u8], now: u32, open: u64, u: u32, p: u32) -> Stepped {
-    ask_out(service::rota_ask(s, Service { now, open }, u, p))
+    ask_out(service::ask(Kind::Rota, s, Service { now, open }, u, p))
 }
 
 #[no_mangle]
 pub extern "C" fn probe_table_advance(s: &[u8], now: u32, open: u64, m: u32) -> Stepped {
-    advance_out(service::table_advance(s, Service { now, open }, m))
+    advance_out(service::advance(Kind::Table, s, Service { now, open }, m))
 }
 
 #[no_mangle]
 pub extern "C" fn probe_table_open(s: &[u8], now: u32, open: u64, u: u32) -> Stepped {
-    change_out(service::table_open(s, Service { now, open }, u))
+    change_out(service::open(Kind::Table, s, Service { now, open }, u))
 }
 
 #[no_mangle]
 pub extern "C" fn probe_table_close(s: &[u8], now: u32, open: u64, u: u32) -> Stepped {
-    change_out(service::table_close(s, Service { now, open }, u))
+    change_out(service::close(Kind::Table, s, Service { now, open }, u))
 }
 
 #[no_mangle]
 pub extern "C" fn probe_table_ask(s: &[u8], now: u32, open: u64, u: u32, p: u32) -> Stepped {
-    ask_out(service::table_ask(s, Service { now, open }, u, p))
+    ask_out(service::ask(Kind::Table, s, Service { now, open }, u, p))
 }

@@ -1,4 +1,3 @@
 pub mod CoreLaws
 pub mod StepLaws
-pub mod RotaReady
-pub mod TableReady
+pub mod LentReady

@@ -1,3 +1,4 @@
 pub mod Machine
+pub mod LentStep
 pub mod Answers
 pub mod Core

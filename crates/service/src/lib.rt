@@ -4,18 +4,13 @@ ghost use Prim.Native.Nat.{_≤_};
 ghost use Rattle.ground.specs.Judgement.{_orElse_};
 ghost use Rattle.bitset.specs.Sets.{has};
 ghost use Rattle.policy.specs.Policy.{answerGiven};
-ghost use Rattle.rota.specs.Rota.{policyOf as rotaPolicy};
-ghost use Rattle.rota.specs.RotaBytes.{rotaOf};
-ghost use Rattle.rota.specs.RotaRefusals.{rotaJudged};
-ghost use Rattle.table.specs.Table.{policyOf as tablePolicy};
-ghost use Rattle.table.specs.TableBytes.{tableOf};
-ghost use Rattle.table.specs.TableRefusals.{tableJudged};
-ghost use Rattle.service.specs.Machine.{stateJudged, advanceJudged, openJudged, closeJudged, askJudged, serviceStep, advance, «open», close, ask};
+ghost use Rattle.service.specs.Machine.{stateJudged, advanceJudged, openJudged, closeJudged, askJudged, advance, «open», close, ask};
+ghost use Rattle.service.specs.LentStep.{lentStep};
 ghost use Rattle.service.specs.Answers.{advancedStep, changedStep, askedStep};
 ghost use Rattle.service.specs.Core.{movedStep, openedStep, closedStep, answeredStep};
+use lent::Kind;
+use lent::Lending;
 use policy::Answer;
-use rota::LayoutAnswer;
-use table::TableAnswer;
 
 // Now, a minute, and the set of users whose sessions are open.
 #[repr(C)]
@@ -187,118 +182,64 @@ fn answered(answer: Answer, service: Service) -> Asked
     }
 }
 
-// The four calls on a lent rota.
-pub fn rota_advance(s: &[u8], service: Service, m: u32) -> Advanced
-    ensures { λ r. ⌜ advancedStep r ≡ serviceStep (rotaJudged (now (s .entry))) (rotaPolicy (rotaOf (now (s .entry)))) service (advance m) ⌝ }
+// The four calls on lent bytes.
+pub fn advance(kind: Kind, s: &[u8], service: Service, m: u32) -> Advanced
+    ensures { λ r. ⌜ advancedStep r ≡ lentStep kind (now (s .entry)) service (advance m) ⌝ }
 {
-    match rota::locate(s) {
-        LayoutAnswer::Refused(n) => Advanced::Refused(n, service),
-        LayoutAnswer::Accepted(l) => {
-            let n = l.counts;
-            let bad = judge_advance(n.users, service, m);
+    match lent::lend(kind, s) {
+        Lending::Refused(n) => Advanced::Refused(n, service),
+        Lending::Lent(source) => {
+            let bad = judge_advance(lent::users(source), service, m);
             if bad != 0 {
                 return Advanced::Refused(bad, service);
             }
-            moved(rota::holders_in(s, l, m), service, m)
+            moved(lent::holders_at(s, source, m), service, m)
         }
     }
 }
 
-pub fn rota_open(s: &[u8], service: Service, u: u32) -> Changed
-    ensures { λ r. ⌜ changedStep r ≡ serviceStep (rotaJudged (now (s .entry))) (rotaPolicy (rotaOf (now (s .entry)))) service («open» u) ⌝ }
+pub fn open(kind: Kind, s: &[u8], service: Service, u: u32) -> Changed
+    ensures { λ r. ⌜ changedStep r ≡ lentStep kind (now (s .entry)) service («open» u) ⌝ }
 {
-    match rota::locate(s) {
-        LayoutAnswer::Refused(n) => Changed::Refused(n, service),
-        LayoutAnswer::Accepted(l) => {
-            let n = l.counts;
-            let bad = judge_state(n.users, service);
+    match lent::lend(kind, s) {
+        Lending::Refused(n) => Changed::Refused(n, service),
+        Lending::Lent(source) => {
+            let users = lent::users(source);
+            let bad = judge_state(users, service);
             if bad != 0 {
                 return Changed::Refused(bad, service);
             }
-            opened(n.users, rota::holders_in(s, l, service.now), service, u)
+            opened(users, lent::holders_at(s, source, service.now), service, u)
         }
     }
 }
 
-pub fn rota_close(s: &[u8], service: Service, u: u32) -> Changed
-    ensures { λ r. ⌜ changedStep r ≡ serviceStep (rotaJudged (now (s .entry))) (rotaPolicy (rotaOf (now (s .entry)))) service (close u) ⌝ }
+pub fn close(kind: Kind, s: &[u8], service: Service, u: u32) -> Changed
+    ensures { λ r. ⌜ changedStep r ≡ lentStep kind (now (s .entry)) service (close u) ⌝ }
 {
-    match rota::locate(s) {
-        LayoutAnswer::Refused(n) => Changed::Refused(n, service),
-        LayoutAnswer::Accepted(l) => {
-            let n = l.counts;
-            closed(n.users, service, u)
-        }
+    match lent::lend(kind, s) {
+        Lending::Refused(n) => Changed::Refused(n, service),
+        Lending::Lent(source) => closed(lent::users(source), service, u),
     }
 }
 
-pub fn rota_ask(s: &[u8], service: Service, u: u32, p: u32) -> Asked
-    ensures { λ r. ⌜ askedStep r ≡ serviceStep (rotaJudged (now (s .entry))) (rotaPolicy (rotaOf (now (s .entry)))) service (ask u p) ⌝ }
+pub fn ask(kind: Kind, s: &[u8], service: Service, u: u32, p: u32) -> Asked
+    ensures { λ r. ⌜ askedStep r ≡ lentStep kind (now (s .entry)) service (ask u p) ⌝ }
 {
-    match rota::locate(s) {
-        LayoutAnswer::Refused(n) => Asked::Refused(n, service),
-        LayoutAnswer::Accepted(l) => {
-            let n = l.counts;
-            let bad = judge_ask(n.users, n.permissions, service, u, p);
+    match lent::lend(kind, s) {
+        Lending::Refused(n) => Asked::Refused(n, service),
+        Lending::Lent(source) => {
+            let bad = judge_ask(
+                lent::users(source),
+                lent::permissions(source),
+                service,
+                u,
+                p,
+            );
             if bad != 0 {
                 return Asked::Refused(bad, service);
             }
-            answered(rota::answer_in(s, l, u, p, service.now), service)
-        }
-    }
-}
-
-// The four calls on a lent table.
-pub fn table_advance(s: &[u8], service: Service, m: u32) -> Advanced
-    ensures { λ r. ⌜ advancedStep r ≡ serviceStep (tableJudged (now (s .entry))) (tablePolicy (tableOf (now (s .entry)))) service (advance m) ⌝ }
-{
-    match table::read(s) {
-        TableAnswer::Refused(code) => Advanced::Refused(code, service),
-        TableAnswer::Accepted(n) => {
-            let bad = judge_advance(n.users, service, m);
-            if bad != 0 {
-                return Advanced::Refused(bad, service);
-            }
-            moved(table::holders_in(s, n, m), service, m)
-        }
-    }
-}
-
-pub fn table_open(s: &[u8], service: Service, u: u32) -> Changed
-    ensures { λ r. ⌜ changedStep r ≡ serviceStep (tableJudged (now (s .entry))) (tablePolicy (tableOf (now (s .entry)))) service («open» u) ⌝ }
-{
-    match table::read(s) {
-        TableAnswer::Refused(code) => Changed::Refused(code, service),
-        TableAnswer::Accepted(n) => {
-            let bad = judge_state(n.users, service);
-            if bad != 0 {
-                return Changed::Refused(bad, service);
-            }
-            opened(n.users, table::holders_in(s, n, service.now), service, u)
-        }
-    }
-}
-
-pub fn table_close(s: &[u8], service: Service, u: u32) -> Changed
-    ensures { λ r. ⌜ changedStep r ≡ serviceStep (tableJudged (now (s .entry))) (tablePolicy (tableOf (now (s .entry)))) service (close u) ⌝ }
-{
-    match table::read(s) {
-        TableAnswer::Refused(code) => Changed::Refused(code, service),
-        TableAnswer::Accepted(n) => closed(n.users, service, u),
-    }
-}
-
-pub fn table_ask(s: &[u8], service: Service, u: u32, p: u32) -> Asked
-    ensures { λ r. ⌜ askedStep r ≡ serviceStep (tableJudged (now (s .entry))) (tablePolicy (tableOf (now (s .entry)))) service (ask u p) ⌝ }
-{
-    match table::read(s) {
-        TableAnswer::Refused(code) => Asked::Refused(code, service),
-        TableAnswer::Accepted(n) => {
-            let bad = judge_ask(n.users, n.permissions, service, u, p);
-            if bad != 0 {
-                return Asked::Refused(bad, service);
-            }
-            answered(table::answer_in(s, n, u, p, service.now), service)
+            answered(lent::answer_at(s, source, u, p, service.now), service)
         }
     }
 }

@@ -5,10 +5,9 @@ use mir.Syntax.{w32}
 use contract.Running.{givenOf, tables, tablesOf}
 use denote.Triple.Spec.{tripleOf}
 use denote.Triple.Table.{entered, cited}
-use Rattle.rota.specs.Rota.{policyOf}
-use Rattle.rota.specs.RotaBytes.{rotaOf}
-use Rattle.rota.specs.RotaRefusals.{rotaJudged}
-use Rattle.service.specs.Machine.{serviceStep, advance}
+use Rattle.lent.specs.declared.Kind.the-variants as Kind
+use Rattle.service.specs.Machine.{advance}
+use Rattle.service.specs.LentStep.{lentStep}
 use Rattle.interface.specs.Told.{leaving, steppedBy}
 use Rattle.interface.proofs.LentOne.{Rel, Step, meets}
 use Rattle.interface.proofs.rota_advance_told.Symbol as step-def
@@ -19,7 +18,7 @@ use Rattle.interface.proofs.softlode_rota_advance.Statement as stated
 use Rattle.interface.proofs.softlode_rota_advance.Code as code
 
 abbrev Φ : Rel
-Φ σ s m τ a = leaving τ a ≡ steppedBy (serviceStep (rotaJudged s) (policyOf (rotaOf s)) σ (advance m))
+Φ σ s m τ a = leaving τ a ≡ steppedBy (lentStep Kind.Rota s σ (advance m))
 
 pub softlode-rota-advance-spec : {M : Type 1} → stated.statement M
 unfolding code.routine tablesOf

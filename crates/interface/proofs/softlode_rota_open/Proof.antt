@@ -5,10 +5,9 @@ use mir.Syntax.{w32}
 use contract.Running.{givenOf, tables, tablesOf}
 use denote.Triple.Spec.{tripleOf}
 use denote.Triple.Table.{entered, cited}
-use Rattle.rota.specs.Rota.{policyOf}
-use Rattle.rota.specs.RotaBytes.{rotaOf}
-use Rattle.rota.specs.RotaRefusals.{rotaJudged}
-use Rattle.service.specs.Machine.{serviceStep, «open»}
+use Rattle.lent.specs.declared.Kind.the-variants as Kind
+use Rattle.service.specs.Machine.{«open»}
+use Rattle.service.specs.LentStep.{lentStep}
 use Rattle.interface.specs.Told.{leaving, steppedBy}
 use Rattle.interface.proofs.LentOne.{Rel, Step, meets}
 use Rattle.interface.proofs.rota_open_told.Symbol as step-def
@@ -19,7 +18,7 @@ use Rattle.interface.proofs.softlode_rota_open.Statement as stated
 use Rattle.interface.proofs.softlode_rota_open.Code as code
 
 abbrev Φ : Rel
-Φ σ s m τ a = leaving τ a ≡ steppedBy (serviceStep (rotaJudged s) (policyOf (rotaOf s)) σ («open» m))
+Φ σ s m τ a = leaving τ a ≡ steppedBy (lentStep Kind.Rota s σ («open» m))
 
 pub softlode-rota-open-spec : {M : Type 1} → stated.statement M
 unfolding code.routine tablesOf

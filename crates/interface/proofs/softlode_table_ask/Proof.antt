@@ -5,10 +5,9 @@ use mir.Syntax.{w32}
 use contract.Running.{givenOf, tables, tablesOf}
 use denote.Triple.Spec.{tripleOf}
 use denote.Triple.Table.{entered, cited}
-use Rattle.table.specs.Table.{policyOf}
-use Rattle.table.specs.TableBytes.{tableOf}
-use Rattle.table.specs.TableRefusals.{tableJudged}
-use Rattle.service.specs.Machine.{serviceStep, ask}
+use Rattle.lent.specs.declared.Kind.the-variants as Kind
+use Rattle.service.specs.Machine.{ask}
+use Rattle.service.specs.LentStep.{lentStep}
 use Rattle.interface.specs.Told.{leaving, steppedBy}
 use Rattle.interface.proofs.LentTwo.{Rel, Step, meets}
 use Rattle.interface.proofs.table_ask_told.Symbol as step-def
@@ -19,7 +18,7 @@ use Rattle.interface.proofs.softlode_table_ask.Statement as stated
 use Rattle.interface.proofs.softlode_table_ask.Code as code
 
 abbrev Φ : Rel
-Φ σ s m n τ a = leaving τ a ≡ steppedBy (serviceStep (tableJudged s) (policyOf (tableOf s)) σ (ask m n))
+Φ σ s m n τ a = leaving τ a ≡ steppedBy (lentStep Kind.Table s σ (ask m n))
 
 pub softlode-table-ask-spec : {M : Type 1} → stated.statement M
 unfolding code.routine tablesOf

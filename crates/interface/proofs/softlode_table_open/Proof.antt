@@ -5,10 +5,9 @@ use mir.Syntax.{w32}
 use contract.Running.{givenOf, tables, tablesOf}
 use denote.Triple.Spec.{tripleOf}
 use denote.Triple.Table.{entered, cited}
-use Rattle.table.specs.Table.{policyOf}
-use Rattle.table.specs.TableBytes.{tableOf}
-use Rattle.table.specs.TableRefusals.{tableJudged}
-use Rattle.service.specs.Machine.{serviceStep, «open»}
+use Rattle.lent.specs.declared.Kind.the-variants as Kind
+use Rattle.service.specs.Machine.{«open»}
+use Rattle.service.specs.LentStep.{lentStep}
 use Rattle.interface.specs.Told.{leaving, steppedBy}
 use Rattle.interface.proofs.LentOne.{Rel, Step, meets}
 use Rattle.interface.proofs.table_open_told.Symbol as step-def
@@ -19,7 +18,7 @@ use Rattle.interface.proofs.softlode_table_open.Statement as stated
 use Rattle.interface.proofs.softlode_table_open.Code as code
 
 abbrev Φ : Rel
-Φ σ s m τ a = leaving τ a ≡ steppedBy (serviceStep (tableJudged s) (policyOf (tableOf s)) σ («open» m))
+Φ σ s m τ a = leaving τ a ≡ steppedBy (lentStep Kind.Table s σ («open» m))
 
 pub softlode-table-open-spec : {M : Type 1} → stated.statement M
 unfolding code.routine tablesOf
