@@ -1,14 +1,14 @@
 -- A question's outcome, by the stage at which it ends.
 -- Assumes nothing.
-use Prim.Native.Nat.{ℕ, _<_, _≤_}
+use Prim.Native.Nat.{ℕ, _<_}
 use mathlib.Core.Path.{_≡_, refl, sym, ap, _∙_}
-use borrow.Author.Tests.{le-leb, lt-leb, leb-false}
+use borrow.Author.Tests.{leb-false}
 use Rattle.ground.specs.Judgement.{_orElse_}
 use Rattle.ground.specs.Outcome.{refused, given, outcome}
-use Rattle.ground.proofs.JudgementLaws.{orElse-ne, orElse-zero, refuse-yes, refuse-none, refuse-no}
+use Rattle.ground.proofs.JudgementLaws.{orElse-ne, orElse-zero, refuse-no}
 use Rattle.ground.proofs.OutcomeLaws.{outcome-refused, outcome-given}
 use Rattle.minutes.specs.Minutes.{E}
-use Rattle.policy.specs.Policy.{Policy, argumentsJudged, question, holdersAt, holdersQuestion}
+use Rattle.policy.specs.Policy.{Policy, argumentsJudged, question}
 
 module _ (j : ℕ) (π : Policy) (t : ℕ) where
   -- the bytes are refused
@@ -29,19 +29,6 @@ module _ (j : ℕ) (π : Policy) (t : ℕ) where
   pub minute-early : (u p n : ℕ) → n ≡ argumentsJudged (π .users) (π .permissions) u p t → n ≡ 0 → t < E
   unfolding argumentsJudged
   minute-early u p n e h = leb-false _ _ (refuse-no 32 _ (orElse-zero _ _ (sym e ∙ h) .0))
-
-  -- who holds any permission
-  pub holders-bytes : (n : ℕ) → j ≡ n → (j ≡ 0 → ⊥) → refused n ≡ holdersQuestion j π t
-  unfolding holdersQuestion
-  holders-bytes n e h = ap refused (sym e) ∙ outcome-refused j (holdersAt π t) h ∙ ap (λ (k : ℕ). outcome k (holdersAt π t)) (sym (orElse-ne j _ h))
-
-  pub holders-late : j ≡ 0 → E ≤ t → refused 33 ≡ holdersQuestion j π t
-  unfolding holdersQuestion _orElse_ outcome
-  holders-late z h = rw (z, refuse-yes 33 _ (le-leb E t h)) refl
-
-  pub holders-given : (x : ℕ) → j ≡ 0 → t < E → x ≡ holdersAt π t → given x ≡ holdersQuestion j π t
-  unfolding holdersQuestion _orElse_ outcome
-  holders-given x z h e = ap given e ∙ rw (z, refuse-none 33 _ (lt-leb E t h)) refl
 
 -- the numbers of a question that are not refused
 pub numbers-below : (users permissions u p t n : ℕ) → n ≡ argumentsJudged users permissions u p t → n ≡ 0 → (u < users) × (p < permissions)

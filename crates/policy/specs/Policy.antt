@@ -11,8 +11,6 @@ use Rattle.bitset.specs.Sets.{setOf}
 use Rattle.minutes.specs.Minutes.{E}
 use Rattle.policy.specs.declared.Answer.{Answer}
 use Rattle.policy.specs.declared.Answer.the-variants as answer
-use Rattle.policy.specs.declared.Holders.{Holders}
-use Rattle.policy.specs.declared.Holders.the-variants as holders
 
 -- how many users and permissions there are, and the answer for a user, a permission and a minute: yes with a role, or no
 pub record Policy : Type 0 where
@@ -38,16 +36,8 @@ argumentsJudged users permissions u p t = refuse 33 (leb E t) orElse refuse 34 (
 unfoldable pub question : ℕ → Policy → ℕ → ℕ → ℕ → Outcome (Option ℕ)
 question bytes π u p t = outcome (bytes orElse argumentsJudged (π .users) (π .permissions) u p t) (π .answer u p t)
 
--- who holds any permission at t: the bytes' refusal, then 33, then the set
-unfoldable pub holdersQuestion : ℕ → Policy → ℕ → Outcome ℕ
-holdersQuestion bytes π t = outcome (bytes orElse refuse 33 (leb E t)) (holdersAt π t)
-
--- what each case of the two answers stands for
+-- what each case of the answer stands for
 abbrev pub answerGiven : Answer → Outcome (Option ℕ)
 answerGiven (answer.Yes r) = given (some r)
 answerGiven answer.No = given none
 answerGiven (answer.Refused n) = refused n
-
-abbrev pub holdersGiven : Holders → Outcome ℕ
-holdersGiven (holders.Users x) = given x
-holdersGiven (holders.Refused n) = refused n

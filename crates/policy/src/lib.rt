@@ -9,12 +9,6 @@ pub enum Answer {
     Refused(u8),
 }
 
-// Who holds any permission at a minute: the set of users, or the number of a refusal.
-pub enum Holders {
-    Users(u64),
-    Refused(u8),
-}
-
 // The first refusal of a question's numbers, else 0.
 pub fn judge_arguments(users: u32, permissions: u32, u: u32, p: u32, t: u32) -> u8
     ensures { λ r. ⌜ r ≡ argumentsJudged users permissions u p t ⌝ }

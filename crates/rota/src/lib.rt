@@ -10,14 +10,13 @@ ghost use Rattle.hours.specs.Hours.{dangling};
 ghost use Rattle.hours.specs.Answers.{refIn};
 ghost use Rattle.ground.specs.Outcome.{given};
 ghost use Rattle.minutes.specs.Minutes.{E};
-ghost use Rattle.policy.specs.Policy.{question, answerGiven, holdersAt, holdersQuestion, holdersGiven};
+ghost use Rattle.policy.specs.Policy.{question, answerGiven, holdersAt};
 ghost use Rattle.rota.specs.Rota.{answer, policyOf};
 ghost use Rattle.rota.specs.RotaBytes.{rotaOf, rolesAt, rolesOf, hoursOf, usersOf, rowAtByte};
 ghost use Rattle.rota.specs.RotaRefusals.{countsOver, headerJudged, roleJudged, rowJudged, rotaJudged};
 ghost use Rattle.rota.specs.Answers.{rotaGiven, readOutcome, layoutGiven, layoutOutcome, countsOf, restJudged, Measured, Located, RowsFine, RolesFine, rolesOfNumber, rolesAssigned, rolesEnabled, usersWith, questionRoles};
 use hours::decode;
 use policy::Answer;
-use policy::Holders;
 
 // The counts of an accepted rota's header.
 pub struct Counts {
@@ -398,21 +397,6 @@ pub fn question(s: &[u8], u: u32, p: u32, t: u32) -> Answer
                 return Answer::Refused(bad);
             }
             answer_in(s, l, u, p, t)
-        }
-    }
-}
-
-// Who holds any permission at minute t: the rota's refusal, 33, or the set.
-pub fn holders(s: &[u8], t: u32) -> Holders
-    ensures { λ r. ⌜ holdersGiven r ≡ holdersQuestion (rotaJudged (now (s .entry))) (policyOf (rotaOf (now (s .entry)))) t ⌝ }
-{
-    match locate(s) {
-        LayoutAnswer::Refused(n) => Holders::Refused(n),
-        LayoutAnswer::Accepted(l) => {
-            if minutes::END <= t {
-                return Holders::Refused(33);
-            }
-            Holders::Users(holders_in(s, l, t))
         }
     }
 }

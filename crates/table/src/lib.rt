@@ -7,14 +7,13 @@ ghost use Rattle.ground.specs.Judgement.{inTurn};
 ghost use Rattle.ground.specs.Outcome.{given};
 ghost use Rattle.endian.specs.Numbers.{u8At, u32At};
 ghost use Rattle.minutes.specs.Minutes.{covers};
-ghost use Rattle.policy.specs.Policy.{question, answerGiven, holdersAt, holdersQuestion, holdersGiven};
+ghost use Rattle.policy.specs.Policy.{question, answerGiven, holdersAt};
 ghost use Rattle.table.specs.Table.{answer, policyOf};
 ghost use Rattle.table.specs.TableBytes.{cycleOf, entryAtByte, rowAtByte, tableOf, headerBytes, entryBytes, rowBytes};
 ghost use Rattle.table.specs.TableRefusals.{entryBad, entryJudged, rowBad, follows, rowJudged, tableJudged};
 ghost use Rattle.table.specs.Answers.{countsOf, tableGiven, headerOutcome, readOutcome, windowGiven, windowMade, entryMade, rowMade};
 ghost use Rattle.table.specs.Answers.{Headed, Opened, RowInside, rowGrants, rowUsers, limitsBytes};
 use policy::Answer;
-use policy::Holders;
 
 // The counts of an accepted table's header.
 pub struct Counts {
@@ -343,21 +342,6 @@ pub fn holders_in(s: &[u8], n: Counts, t: u32) -> u64
         i += 1;
     }
     set
-}
-
-// Who holds any permission at minute t: the table's refusal, 33, or the set.
-pub fn holders(s: &[u8], t: u32) -> Holders
-    ensures { λ r. ⌜ holdersGiven r ≡ holdersQuestion (tableJudged (now (s .entry))) (policyOf (tableOf (now (s .entry)))) t ⌝ }
-{
-    match read(s) {
-        TableAnswer::Refused(code) => Holders::Refused(code),
-        TableAnswer::Accepted(n) => {
-            if minutes::END <= t {
-                return Holders::Refused(33);
-            }
-            Holders::Users(holders_in(s, n, t))
-        }
-    }
 }
 
 // The writers store a part of a table and keep every other byte. First what the header has before its two counts.
