@@ -1,5 +1,6 @@
--- Loops that gather a set, each turn of which puts at most one number in.
+-- Loops that gather a set, each turn of which puts at most one number in, or a whole set.
 --     gather-none, gather-in, gather-out    before the first turn; a turn that puts a in; a turn that puts nothing in
+--     gather-start, gather-union            before the first turn; a turn that adds a set
 --     lowest-of, none-of                    the lowest member of a set given by a test, and a set with no member
 -- Assumes nothing.
 use mathlib.Core.Path.{_≡_, sym, ap, ap₂, _∙_}
@@ -14,7 +15,7 @@ use borrow.Author.Tests.{ltb-true}
 use Rattle.ground.specs.Search.{anyBelow, lowestBelow}
 use Rattle.ground.proofs.BoolLaws.{and-yes, eqb-sym}
 use Rattle.ground.proofs.SearchLaws.{any-none, any-turn, lowest-is, lowest-none}
-use Rattle.bitset.specs.Sets.{has, setOf, insert, Lowest}
+use Rattle.bitset.specs.Sets.{has, setOf, insert, union, Lowest}
 use Rattle.bitset.proofs.SetLaws.{insert-lt, has-setOf, has-below, has-insert, has-none, setOf-has, setOf-lt, setOf-same}
 
 -- turn k puts target k in where its test holds
@@ -51,6 +52,18 @@ module _ (n : ℕ) (top : n ≤ 64) (test : ℕ → Bool) (target : ℕ → ℕ)
         ey ∙ ex
         ∙ setOf-same n _ _
         (λ j m. sym (one-more j ∙ ap (λ (b : Bool). anyBelow k (λ i. test i && eqb (target i) j) || (b && eqb a j)) e ∙ or-false _))
+
+-- `g j k` says that turn k puts j in, and turn k adds the set z
+module _ (g : ℕ → ℕ → Bool) where
+  pub gather-start : 0 ≡ setOf 64 (λ j. anyBelow 0 (g j))
+  gather-start = setOf-has 64 0 _ (pow-pos 64) (λ j l. has-none j ∙ sym (any-none (g j)))
+
+  pub gather-union : (k x y z : ℕ) → x ≡ setOf 64 (λ j. anyBelow k (g j)) → ((j : ℕ) → j < 64 → g j k ≡ has z j) → y ≡ union x z
+      → y ≡ setOf 64 (λ j. anyBelow (k + 1) (g j))
+  unfolding union
+  gather-union k x y z ex h ey =
+      ey
+      ∙ setOf-same 64 _ _ (λ j l. ap₂ _||_ (ap (λ (m : ℕ). has m j) ex ∙ has-below 64 _ j l) (sym (h j l)) ∙ sym (any-turn (g j) k))
 
 module _ (n : ℕ) (f : ℕ → Bool) (x : ℕ) (ex : x ≡ setOf n f) where
   member-of : (j : ℕ) → has x j ≡ (ltb j n && f j)

@@ -5,7 +5,7 @@
 --     has-setOf, setOf-lt, setOf-same     members of a set given by a test, and its size as a number
 --     has-insert .. has-difference        members of each operation
 --     ones-count                          the language's count is the number of members
---     member-in, member-out               a set given by a test is not empty
+--     member-in, member-out               a set given by a test is not empty; some-member: any set that is not empty
 --     setOf-none, turn-in, turn-out       a loop that gathers a set
 -- Assumes nothing.
 use mathlib.Core.Path.{_≡_, refl, sym, ap, ap₂, _∙_, subst}
@@ -20,10 +20,9 @@ use lib.Pow.{pow-pos, pow-lt, pow-mono, shr-shr, shl-exact}
 use lib.Bits.{bitAnd, bitOr, and-le-l, and-shr, or-shr, and-mod, or-mod, or-lt}
 use lib.Count.{ones, ones-step}
 use borrow.Author.Tests.{eq-eqb, ne-eqb, eqb-true, eqb-false, lt-ltb, le-ltb, ltb-true, ltb-false, not-true}
-use Rattle.ground.specs.Search.{one, countBelow}
-use Rattle.ground.specs.Search.{anyBelow}
+use Rattle.ground.specs.Search.{one, anyBelow, countBelow}
 use Rattle.ground.proofs.BoolLaws.{ltb-iff, T-ext, eq→T, clash}
-use Rattle.ground.proofs.SearchLaws.{any-stop, any-out}
+use Rattle.ground.proofs.SearchLaws.{any-stop, any-out, any-no}
 use Rattle.bitset.specs.Sets.{has, setOf, insert, remove, union, intersection, difference, count}
 
 -- ---- the lowest bit, and the rest
@@ -225,6 +224,10 @@ module _ (x y : ℕ) (fx : x < 2 ^ 64) (fy : y < 2 ^ 64) where
       setOf-has 64 _ _ (lt-of-le-of-lt (and-le-l x ((2 ^ 64 - 1) - y)) fx)
       (λ j l. has-and x ((2 ^ 64 - 1) - y) j ∙ ap (λ (b : Bool). has x j && b) (has-not 64 y j fy l))
 
+pub intersection-lt : (x y : ℕ) → intersection x y < 2 ^ 64
+unfolding intersection
+intersection-lt x y = setOf-lt 64 _
+
 pub union-nothing : (x : ℕ) → x < 2 ^ 64 → x ≡ union x 0
 unfolding union
 union-nothing x h = setOf-has 64 x (λ j. has x j || has 0 j) h (λ j l. sym (or-false (has x j)) ∙ ap (λ (b : Bool). has x j || b) (sym (has-none j)))
@@ -364,6 +367,16 @@ module _ (n : ℕ) (f : ℕ → Bool) where
       go false e =
           clash (eqb (setOf n f) 0) (eq-eqb _ 0 (sym (setOf-has n 0 f (pow-pos n) (λ i l. none-there e i l (f i) refl))))
           (not-true (eqb (setOf n f) 0) h)
+
+-- a set that is not empty has a member
+pub some-member : (k x : ℕ) → 0 < x → x < 2 ^ k → anyBelow k (has x) ≡ true
+some-member k x p h = go (anyBelow k (has x)) refl
+  where
+    go : (b : Bool) → anyBelow k (has x) ≡ b → b ≡ true
+    go true e = refl
+    go false e =
+        let z : x ≡ 0 = ext k x 0 h (pow-pos k) (λ i l. any-no _ _ e i l ∙ sym (has-none i)) in
+        absurd (omega arith)
 
 -- ---- one member more
 pub insert-self : (x i : ℕ) → i < 64 → has (insert x i) i ≡ true
