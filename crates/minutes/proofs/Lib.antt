@@ -1,0 +1,3 @@
+pub mod FirstLaws
+pub mod WindowLaws
+pub mod StretchLaws
