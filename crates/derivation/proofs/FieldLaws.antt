@@ -1,13 +1,10 @@
 -- The fields of a rota.
---     In, covers-in, in-covers       a window covers a minute, as four comparisons
 --     ends, wide, fits               a field ends by E; its cell is not empty and ends by C
 --     field-alike                    no hours tell two minutes of a field apart
 --     field-find, field-unique       every minute lies in one field, and in no other
 --     fields-distinct, field-count   no field is there twice, so that just one of the list covers a minute
---     minute-in, minute-any          the first minute of a field is in it, where any minute is
 -- Assumes nothing.
 use Rattle.ground.proofs.ListLaws.{all-in}
-use Rattle.ground.proofs.BoolLaws.{and-left, and-right, and-both}
 use Prim.Native.Nat.{ℕ, _+_, _-_, _%_, _≤_, _<_, zero-le}
 use mathlib.Core.Path.{_≡_, refl, sym, ap, ap₂, _∙_}
 use mathlib.Core.Logic.{⊎-elim}
@@ -15,45 +12,19 @@ use mathlib.Core.Bool.{true}
 use mathlib.Core.List.{List, [], _∷_, map, List·Memᴰ, List·Memᴰ·head, List·Memᴰ·tail, List·Memᴰ·cases-cons, List·Memᴰ·not-nil, Memᴰ·append-left, Memᴰ·append-right, List·Memᴰ·append-cases, Memᴰ·map, Memᴰ·of-map, Memᴰ·cast}
 use native.Mathlib.Nat.{mod-lt}
 use native.Mathlib.Omega.{arith}
-use lib.Dec.{ltb}
-use borrow.Author.Tests.{leb-true, ltb-true, le-leb, lt-ltb}
-use Rattle.minutes.specs.Minutes.{E, Window, inPhase, covers}
+use Rattle.minutes.specs.Minutes.{E, Window, covers}
+use Rattle.minutes.proofs.WindowLaws.{In, covers-in, in-covers}
 use Rattle.rota.specs.Rota.{Rota}
 use Rattle.rota.specs.RotaWell.{RotaWell}
+use Rattle.rota.specs.Alike.{Alike}
 use Rattle.derivation.specs.Cuts.{Gap, gaps}
 use Rattle.derivation.specs.Rewriting.{eraCuts, cellCuts, fieldOf, fieldsOf, fields}
-use Rattle.derivation.specs.Masks.{minuteOf}
 use Rattle.derivation.specs.Untimed.{countOf}
 use Rattle.derivation.proofs.TableFields.{FieldWell, fields-well}
 use Rattle.derivation.proofs.CutLaws.{Inside, ordered, find, unique, once}
 use Rattle.derivation.proofs.DistinctLaws.{Distinct, distinct-append, distinct-map}
 use Rattle.derivation.proofs.CountingLaws.{count-exactly}
-use Rattle.derivation.proofs.FirstLaws.{first-ge, first-left, first-right, first-le}
-use Rattle.derivation.proofs.ConstancyLaws.{Alike, alike}
-
--- ---- a window and a minute
-
-pub record In (c : ℕ) (f : Window) (t : ℕ) : Type 0 where
-  pub from : f .begin ≤ t
-  pub to : t < f .end
-  pub left : f .offset ≤ t % c
-  pub right : t % c < f .offset + f .length
-
-module _ {c : ℕ} {f : Window} {t : ℕ} where
-  pub covers-in : covers c f t ≡ true → In c f t
-  unfolding covers inPhase
-  covers-in h =
-      record {
-        from = leb-true _ _ (search (and-left, and-right));
-        to = ltb-true _ _ (search (and-left, and-right));
-        left = leb-true _ _ (search (and-left, and-right));
-        right = ltb-true _ _ (search (and-left, and-right));
-      }
-
-  pub in-covers : In c f t → covers c f t ≡ true
-  unfolding covers inPhase
-  in-covers h =
-      and-both _ _ (and-both _ _ (le-leb _ _ (h .from)) (lt-ltb _ _ (h .to))) (and-both _ _ (le-leb _ _ (h .left)) (lt-ltb _ _ (h .right)))
+use Rattle.derivation.proofs.ConstancyLaws.{alike}
 
 -- ---- eras with cells
 
@@ -167,22 +138,6 @@ module _ (ρ : Rota) (w : RotaWell ρ) where
     field-alike s t a b =
         let q : Parts f = parts f m in
         alike ρ (q .era) (q .cell) (q .era-in) (q .cell-in) s t (in-era (covers-in a)) (in-era (covers-in b)) (in-cell (covers-in a)) (in-cell (covers-in b))
-
-    -- the first minute
-    pub minute-in : ltb (minuteOf (ρ .cycle) f) (f .end) ≡ true → covers (ρ .cycle) f (minuteOf (ρ .cycle) f) ≡ true
-    minute-in h =
-        in-covers
-        (record {
-          from = first-ge _ _ _ _ (w .cycle-some) wide fits;
-          to = ltb-true _ _ h;
-          left = first-left _ _ _ _ (w .cycle-some) wide fits;
-          right = first-right _ _ _ _ (w .cycle-some) wide fits;
-        })
-
-    pub minute-any : (t : ℕ) → covers (ρ .cycle) f t ≡ true → ltb (minuteOf (ρ .cycle) f) (f .end) ≡ true
-    minute-any t h =
-        let k : In (ρ .cycle) f t = covers-in h in
-        lt-ltb (minuteOf (ρ .cycle) f) (f .end) (omega (arith, first-le _ _ _ _ (w .cycle-some) wide fits t (k .from) (k .left) (k .right)))
 
   pub field-find : (t : ℕ) → t < E → (f : Window) × List·Memᴰ f (fields ρ) × (covers (ρ .cycle) f t ≡ true)
   unfolding fields eraCuts cellCuts

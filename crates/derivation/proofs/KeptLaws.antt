@@ -12,17 +12,19 @@ use mathlib.Core.Option.{Option, none, some}
 use mathlib.Core.List.{List·Memᴰ}
 use native.Mathlib.Omega.{arith}
 use lib.Dec.{ltb}
+use borrow.Author.Tests.{ltb-true, ltb-false}
 use Rattle.ground.specs.Choice.{pick}
-use Rattle.ground.proofs.BoolLaws.{pick-true, and-left, and-right, and-both, clash}
+use Rattle.ground.proofs.BoolLaws.{pick-true, and-left, and-right, and-both}
 use Rattle.minutes.specs.Minutes.{E, Window, covers}
+use Rattle.minutes.specs.First.{minuteOf}
+use Rattle.minutes.proofs.WindowLaws.{covers-in, minute-in, minute-any}
 use Rattle.rota.specs.Rota.{Rota}
 use Rattle.rota.specs.RotaWell.{RotaWell}
+use Rattle.rota.specs.Alike.{Alike}
 use Rattle.table.specs.Table.{Entry}
 use Rattle.derivation.specs.Rewriting.{fields, derivedAt, active, derivedThere, keptAs}
-use Rattle.derivation.specs.Masks.{minuteOf}
-use Rattle.derivation.proofs.FirstLaws.{first-le}
-use Rattle.derivation.proofs.ConstancyLaws.{Alike, alike-derived, alike-active}
-use Rattle.derivation.proofs.FieldLaws.{In, covers-in, ends, field-alike, minute-in, minute-any}
+use Rattle.derivation.proofs.ConstancyLaws.{alike-derived, alike-active}
+use Rattle.derivation.proofs.FieldLaws.{ends, wide, fits, field-alike}
 
 module _ (ρ : Rota) (r : ℕ) (f : Window) where
   -- a minute at which the role is active
@@ -49,11 +51,7 @@ module _ (ρ : Rota) (r : ℕ) (f : Window) where
   -- the same, by the first minute of the window
   pub kept-late : 0 < ρ .cycle → f .offset < f .offset + f .length → f .offset + f .length ≤ ρ .cycle → f .end ≤ minuteOf (ρ .cycle) f
       → keptAs ρ r f ≡ none
-  kept-late pos wide fits late =
-      kept-none
-      (λ t l h.
-      let k : In (ρ .cycle) f t = covers-in h in
-      omega (arith, first-le (ρ .cycle) (f .begin) (f .offset) (f .offset + f .length) pos wide fits t (k .from) (k .left) (k .right)))
+  kept-late pos wide fits late = kept-none (λ t l h. omega (arith, minute-any (ρ .cycle) f pos wide fits t h))
 
   -- what a field is kept as by one of its minutes
   abbrev pub keptBy : ℕ → Option Entry
@@ -78,5 +76,5 @@ module _ (ρ : Rota) (r : ℕ) (f : Window) where
     kept-closed = go (ltb (minuteOf (ρ .cycle) f) (f .end)) refl
       where
         go : (b : Bool) → ltb (minuteOf (ρ .cycle) f) (f .end) ≡ b → keptAs ρ r f ≡ pick b (keptBy (minuteOf (ρ .cycle) f)) none
-        go true e = kept-is _ (minute-in ρ w m e)
-        go false e = kept-none (λ t l h. clash _ (minute-any ρ w m t h) e)
+        go true e = kept-is _ (minute-in (ρ .cycle) f (w .cycle-some) (wide ρ w m) (fits ρ w m) (ltb-true _ _ e))
+        go false e = kept-late (w .cycle-some) (wide ρ w m) (fits ρ w m) (ltb-false _ _ e)

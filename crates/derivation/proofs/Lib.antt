@@ -8,7 +8,6 @@ pub mod TableRewritten
 pub mod RoleByRole
 pub mod RoleMarks
 pub mod CutLaws
-pub mod FirstLaws
 pub mod ConstancyLaws
 pub mod FieldLaws
 pub mod DistinctLaws

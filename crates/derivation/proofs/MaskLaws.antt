@@ -15,13 +15,14 @@ use Rattle.ground.specs.Sequence.{All}
 use Rattle.bitset.specs.Sets.{has, insert, setOf}
 use Rattle.bitset.proofs.SetLaws.{has-none, has-below, setOf-same, insert-self, insert-other}
 use Rattle.minutes.specs.Minutes.{E, Window}
+use Rattle.minutes.specs.First.{minuteOf}
 use Rattle.hours.specs.Hours.{holds, never, refHolds, dangling}
 use Rattle.hours.specs.declared.HoursRef.{HoursRef}
 use Rattle.hours.specs.declared.HoursRef.the-variants.{Always, Numbered}
 use Rattle.rota.specs.Rota.{Row, Rota, refOn, roleHours, enabled, assigned, hasUser, hasPermission}
 use Rattle.rota.specs.RotaWell.{RowWell, RotaWell}
 use Rattle.derivation.specs.Rewriting.{fields, usersAt, permissionsAt, active, keptAs}
-use Rattle.derivation.specs.Masks.{minuteOf, maskOf, slotOf, assignedIn, usersIn, permissionsIn, keptIn}
+use Rattle.derivation.specs.Masks.{maskOf, slotOf, assignedIn, usersIn, permissionsIn, keptIn}
 use Rattle.derivation.proofs.FieldLaws.{ends}
 use Rattle.derivation.proofs.KeptLaws.{keptBy, kept-closed}
 

@@ -17,33 +17,26 @@ use lib.Dec.{ltb, eqb}
 use lib.ListN.{length}
 use Rattle.ground.specs.Choice.{pick}
 use Rattle.minutes.specs.Minutes.{E, Window, covers}
-use Rattle.hours.specs.declared.HoursRef.{HoursRef}
-use Rattle.rota.specs.Rota.{Rota, refOn, enabled, hasUser, hasPermission}
+use Rattle.minutes.specs.First.{minuteOf}
+use Rattle.rota.specs.Rota.{Rota}
 use Rattle.rota.specs.Rota as rota
 use Rattle.rota.specs.RotaWell.{RotaWell}
+use Rattle.rota.proofs.AlikeLaws.{alike-enabled, alike-user, alike-permission}
 use Rattle.table.specs.Table.{Entry}
 use Rattle.table.specs.Table as table
-use Rattle.derivation.specs.Rewriting.{fields, usersAt, permissionsAt, derivedAt, active, keptAs, Kept, kept, rewrite}
-use Rattle.derivation.specs.Masks.{minuteOf, maskOf, keptIn}
+use Rattle.derivation.specs.Rewriting.{fields, derivedAt, active, keptAs, Kept, kept, rewrite}
+use Rattle.derivation.specs.Masks.{maskOf, keptIn}
+use Rattle.derivation.specs.Constancy.{SameAt}
+use Rattle.derivation.specs.Worked.{example, field}
 use Rattle.derivation.specs.Untimed.{Untimed, countOf, Rival}
 use Rattle.derivation.specs.Meaning.{Acting, MeansAt}
-use Rattle.derivation.proofs.ConstancyLaws.{alike-enabled, alike-user, alike-permission, alike-users, alike-permissions, alike-active}
+use Rattle.derivation.proofs.ConstancyLaws.{alike-users, alike-permissions, alike-active}
 use Rattle.derivation.proofs.FieldLaws.{field-alike, field-find, field-unique, field-count}
 use Rattle.derivation.proofs.KeptLaws.{kept-closed}
 use Rattle.derivation.proofs.MaskLaws.{mask-kept}
 use Rattle.derivation.proofs.MeaningLaws.{Active, active-in, active-out, Found, complete, of-active, of-is, of-place, through-same, answer-same}
 use Rattle.derivation.proofs.FewestLaws.{no-fewer}
-use Rattle.derivation.proofs.WorkedField.{example, field, field-in, not-kept, not-among}
-
--- two minutes at which all hours judge alike, and so all that a role has
-pub record SameAt (ρ : Rota) (s t : ℕ) : Type 0 where
-  pub hours-same : (h : HoursRef) → refOn ρ h s ≡ refOn ρ h t
-  pub enabled-same : (r : ℕ) → enabled ρ r s ≡ enabled ρ r t
-  pub user-same : (u r : ℕ) → hasUser ρ u r s ≡ hasUser ρ u r t
-  pub permission-same : (p r : ℕ) → hasPermission ρ p r s ≡ hasPermission ρ p r t
-  pub users-same : (r : ℕ) → usersAt ρ r s ≡ usersAt ρ r t
-  pub permissions-same : (r : ℕ) → permissionsAt ρ r s ≡ permissionsAt ρ r t
-  pub active-same : (r : ℕ) → active ρ r s ≡ active ρ r t
+use Rattle.derivation.proofs.WorkedField.{field-in, not-kept, not-among}
 
 -- `active` of the rules says just this
 pub active-means : (ρ : Rota) (r t : ℕ) → (active ρ r t ≡ true) ↔ Acting ρ r t

@@ -1,35 +1,17 @@
--- The worked field of document 01 ("Worked minutes"): with C 10, hours (3, 5, pair (0, 10)) and (0, E, pair (6, 2)), era 3 to 5 keeps no field with
--- cell 6 to 8. The field is there, and has no minute.
+-- The worked field of document 01 ("Worked minutes"): era 3 to 5 keeps no field with cell 6 to 8. The field is there, and has no minute.
 -- Assumes nothing.
 use Prim.Native.Nat.{ℕ}
 use mathlib.Core.Path.{_≡_, refl, sym, ap, _∙_}
 use mathlib.Core.Option.{none, some}
-use mathlib.Core.List.{[], _∷_, List·Memᴰ, List·Memᴰ·head, List·Memᴰ·tail}
+use mathlib.Core.List.{List·Memᴰ, List·Memᴰ·head, List·Memᴰ·tail}
 use native.Mathlib.Omega.{arith}
-use Rattle.minutes.specs.Minutes.{E, Window}
-use Rattle.hours.specs.declared.HoursRef.the-variants.{Always}
-use Rattle.rota.specs.Rota.{Rota}
+use Rattle.minutes.specs.Minutes.{E}
+use Rattle.minutes.specs.First.{firstIn}
 use Rattle.derivation.specs.Cuts.{insertCut, sortInto, gapsFrom, gaps}
 use Rattle.derivation.specs.Rewriting.{hoursCuts, pairCuts, pairsCuts, eraCuts, cellCuts, fieldsOf, fields, keptAs, Kept, kept}
-use Rattle.derivation.specs.Masks.{firstIn}
+use Rattle.derivation.specs.Worked.{example, field}
 use Rattle.derivation.proofs.KeptLaws.{kept-late}
 use Rattle.derivation.proofs.KeptListLaws.{kept-out}
-
--- role 0 is always enabled, and always has user 0 and permission 0
-abbrev pub example : Rota
-example =
-    record {
-      cycle = 10;
-      users = 1;
-      permissions = 1;
-      hours = record { begin = 3; end = 5; pairs = record { offset = 0; length = 10 } ∷ [] } ∷ record { begin = 0; end = E; pairs = record { offset = 6; length = 2 } ∷ [] } ∷ [];
-      roles = Always ∷ [];
-      user-rows = record { number = 0; role = 0; hours = Always } ∷ [];
-      permission-rows = record { number = 0; role = 0; hours = Always } ∷ [];
-    }
-
-abbrev pub field : Window
-field = record { begin = 3; end = 5; offset = 6; length = 2 }
 
 pub field-in : List·Memᴰ field (fields example)
 unfolding E fields eraCuts cellCuts hoursCuts pairCuts pairsCuts insertCut sortInto gapsFrom gaps fieldsOf

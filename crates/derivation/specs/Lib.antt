@@ -4,3 +4,5 @@ pub mod Rewriting
 pub mod Meaning
 pub mod Untimed
 pub mod Masks
+pub mod Constancy
+pub mod Worked

@@ -1,6 +1,6 @@
 -- A field by the hours that hold in it, as the code goes about it. Nothing here is part of the rules: each definition is proved to give what the
 -- rules give.
-use Prim.Native.Nat.{ℕ, _+_, _-_, _%_}
+use Prim.Native.Nat.{ℕ}
 use mathlib.Core.Bool.{Bool, not, _&&_}
 use mathlib.Core.Option.{Option, none, some}
 use mathlib.Core.List.{List}
@@ -10,19 +10,12 @@ use Rattle.ground.specs.Choice.{pick}
 use Rattle.ground.specs.Search.{any}
 use Rattle.bitset.specs.Sets.{has, insert, setOf}
 use Rattle.minutes.specs.Minutes.{Window}
+use Rattle.minutes.specs.First.{minuteOf}
 use Rattle.hours.specs.Hours.{holds, never}
 use Rattle.hours.specs.declared.HoursRef.{HoursRef}
 use Rattle.hours.specs.declared.HoursRef.the-variants.{Always, Numbered}
 use Rattle.rota.specs.Rota.{Row, Rota, roleHours}
 use Rattle.table.specs.Table.{Entry}
-
--- from a on, the first minute whose remainder by c lies from o to before e
-unfoldable pub firstIn : ℕ → ℕ → ℕ → ℕ → ℕ
-firstIn c a o e = pick (ltb (a % c) o) (a + (o - a % c)) (pick (ltb (a % c) e) a (a + (c - a % c) + o))
-
--- the first minute of a field, where it is before the era's end
-abbrev pub minuteOf : ℕ → Window → ℕ
-minuteOf c f = firstIn c (f .begin) (f .offset) (f .offset + f .length)
 
 -- the numbers of the hours records that hold in a field, and 32 for always; nothing where the field has no minute
 unfoldable pub maskOf : Rota → Window → ℕ

@@ -20,19 +20,21 @@ use Rattle.bitset.proofs.SetLaws.{setOf-same, intersection-setOf}
 use Rattle.minutes.specs.Minutes.{E}
 use Rattle.hours.specs.Hours.{Hours, holds, never}
 use Rattle.hours.specs.HoursBytes.{hoursFrom}
+use Rattle.hours.specs.Inside.{datesHold, pairsHold, recordsThat}
 use Rattle.rota.specs.Rota.{Rota}
-use Rattle.rota.specs.RotaBytes.{cycleOf, hoursOf, rotaOf}
+use Rattle.rota.specs.RotaBytes.{headerLength, cycleOf, hoursOf, rotaOf}
 use Rattle.rota.specs.RotaRefusals.{rotaJudged}
 use Rattle.rota.proofs.RotaFine.{rota-fine}
 use Rattle.rota.proofs.RotaTheorems.{accepted-well}
 use Rattle.derivation.specs.Cuts.{Gap, gaps}
 use Rattle.derivation.specs.Rewriting.{hoursCuts, pairsCuts, eraCuts, cellCuts, fieldOf, fieldsOf, fields}
-use Rattle.derivation.specs.Masks.{firstIn, maskOf}
+use Rattle.minutes.specs.First.{firstIn}
+use Rattle.minutes.proofs.FirstLaws.{first-ge, first-left, first-right}
+use Rattle.derivation.specs.Masks.{maskOf}
 use Rattle.derivation.proofs.CutLaws.{Inside}
-use Rattle.derivation.proofs.FirstLaws.{first-ge, first-left, first-right}
 use Rattle.derivation.proofs.ValueLaws.{era-values, cell-values, hoursCuts-length, pairsCuts-length}
 use Rattle.derivation.proofs.TableFields.{fieldsOf-length}
-use Rattle.grid.specs.Grid.{Added, datesHold, pairsHold, hoursNo, recordsThat, fieldMask, gapAt, InCells, maskIn, Cuts, Divided, Laid}
+use Rattle.grid.specs.Grid.{Added, hoursNo, fieldMask, gapAt, InCells, maskIn, Cuts, Divided, Laid}
 use Rattle.grid.proofs.RecordLaws.{few-hours}
 use Rattle.grid.proofs.OrderLaws.{gaps-at, gap-in, added-cuts}
 use Rattle.grid.proofs.FieldLaws.{holds-split}
@@ -75,7 +77,7 @@ module _ (s : List ℕ) (ok : rotaJudged s ≡ 0) where
   holding-is : (era cell : Gap) → List·Memᴰ era (gaps (eraCuts (rotaOf s))) → List·Memᴰ cell (gaps (cellCuts (rotaOf s))) → (t : ℕ) → Inside era t
       → Inside cell (t % cycleOf s)
       → setOf (length (rotaOf s .hours)) (λ k. holds (rotaOf s .cycle) (getD (rotaOf s .hours) k never) t)
-      ≡ intersection (recordsThat s (hoursOf s) (datesHold (era .low))) (recordsThat s (hoursOf s) (pairsHold (cell .low)))
+      ≡ intersection (recordsThat s headerLength (hoursOf s) (datesHold (era .low))) (recordsThat s headerLength (hoursOf s) (pairsHold (cell .low)))
   unfolding rotaOf hoursFrom recordsThat
   holding-is era cell m n t a b =
       ap (λ (n : ℕ). setOf n (λ k. holds (cycleOf s) (getD (listOf (hoursOf s) (hoursNo s)) k never) t)) (listOf-length (hoursOf s) (hoursNo s))
@@ -87,7 +89,7 @@ module _ (s : List ℕ) (ok : rotaJudged s ≡ 0) where
 
   module _ (eras cells : List ℕ) (ne nc : ℕ) (ce : Cuts (eraCuts (rotaOf s)) eras ne E) (cc : Cuts (cellCuts (rotaOf s)) cells nc (cycleOf s)) where
     pub mask-is : (i j : ℕ) → i < ne → j < nc
-        → fieldMask (cycleOf s) (recordsThat s (hoursOf s) (datesHold (getD eras i 0))) (recordsThat s (hoursOf s) (pairsHold (getD cells j 0)))
+        → fieldMask (cycleOf s) (recordsThat s headerLength (hoursOf s) (datesHold (getD eras i 0))) (recordsThat s headerLength (hoursOf s) (pairsHold (getD cells j 0)))
         (getD eras i 0) (getD eras (i + 1) 0) (getD cells j 0) (getD cells (j + 1) 0)
         ≡ maskOf (rotaOf s) (fieldOf (gapAt eras i) (gapAt cells j))
     unfolding rotaOf
@@ -106,7 +108,7 @@ module _ (s : List ℕ) (ok : rotaJudged s ≡ 0) where
         (first-left (cycleOf s) b o f pos oe ec, first-right (cycleOf s) b o f pos oe ec))
 
     -- the masks of one era
-    row-is : (i dates : ℕ) (pairs : List ℕ) → i < ne → dates ≡ recordsThat s (hoursOf s) (datesHold (getD eras i 0)) → InCells s (hoursOf s) cells nc pairs
+    row-is : (i dates : ℕ) (pairs : List ℕ) → i < ne → dates ≡ recordsThat s headerLength (hoursOf s) (datesHold (getD eras i 0)) → InCells s (hoursOf s) cells nc pairs
         → listOf nc (maskIn (cycleOf s) dates (getD eras i 0) (getD eras (i + 1) 0) cells pairs)
         ≡ map (maskOf (rotaOf s)) (map (fieldOf (gapAt eras i)) (gaps (cellCuts (rotaOf s))))
     unfolding maskIn
@@ -116,7 +118,7 @@ module _ (s : List ℕ) (ok : rotaJudged s ≡ 0) where
         ∙ ap (map (maskOf (rotaOf s))) (sym (map-listOf (fieldOf (gapAt eras i)) nc (gapAt cells)) ∙ ap (map (fieldOf (gapAt eras i))) (sym (gaps-at _ cells nc (cc .long) (cc .are))))
 
     module _ {i first : ℕ} {masks : List ℕ} (w : Written s eras ne nc i first masks) where
-      pub written-more : {cycle h dates : ℕ} {pairs after : List ℕ} → i < ne → cycle ≡ cycleOf s → h ≡ hoursOf s → dates ≡ recordsThat s h (datesHold (getD eras i 0))
+      pub written-more : {cycle h dates : ℕ} {pairs after : List ℕ} → i < ne → cycle ≡ cycleOf s → h ≡ hoursOf s → dates ≡ recordsThat s headerLength h (datesHold (getD eras i 0))
           → InCells s h cells nc pairs
           → take (first + nc) after ≡ take first masks ++ listOf nc (maskIn cycle dates (getD eras i 0) (getD eras (i + 1) 0) cells pairs)
           → Written s eras ne nc (i + 1) (first + nc) after

@@ -1,55 +1,24 @@
--- What the functions that judge records and store masks find.
---     dates-are                                  a record's dates
---     spanAt, span-is, pairs-yes, pairs-no       a record's pairs, one after the other
+-- What the functions that make and store masks find.
 --     field-some, field-none                     a field with a minute, and one without
 --     in-cells-none, in-cells-more               a set for each cell
 --     store-none, store-more                     values stored one after the other from a place on
 -- Assumes nothing.
 use Prim.Native.Nat.{ℕ, suc, _+_, _≤_, _<_}
 use mathlib.Core.Path.{_≡_, refl, sym, ap, ap₂, _∙_}
-use mathlib.Core.Bool.{Bool, true, false}
 use mathlib.Core.Logic.{⊎-elim}
 use mathlib.Core.List.{List, [], _∷_, _++_, append-assoc, append-nil}
-use native.Mathlib.Nat.{not-suc-le-zero, le-antisymm, le-of-suc-le-suc, eq-or-lt-of-le}
+use native.Mathlib.Nat.{not-suc-le-zero, le-of-suc-le-suc, eq-or-lt-of-le}
 use native.Mathlib.Numerals.{add-one}
 use native.Mathlib.Omega.{arith}
 use borrow.Author.Tests.{lt-ltb, le-ltb}
 use lib.ListN.{length, getD, take, set}
 use lib.Seq.{take-suc-set, getD-set-same, getD-set-other}
-use Rattle.ground.specs.Search.{anyBelow}
 use Rattle.ground.specs.Sequence.{listOf}
-use Rattle.ground.proofs.SearchLaws.{any-stop, list-any}
 use Rattle.bitset.specs.Sets.{insert, intersection}
-use Rattle.minutes.specs.Minutes.{within}
-use Rattle.hours.specs.Hours.{Pair}
-use Rattle.hours.specs.HoursBytes.{offsetAt, lengthAt, pairAt, beginAt, endAt, pairsAt, hoursAt}
-use Rattle.derivation.specs.Masks.{firstIn}
-use Rattle.grid.specs.Grid.{datesHold, pairsHold, recordsThat, fieldMask, InCells}
-
-module _ (s : List ℕ) (at : ℕ) where
-  pub dates-are : (t b e : ℕ) (r : Bool) → b ≡ beginAt s at → e ≡ endAt s at → r ≡ within b e t → r ≡ datesHold t (hoursAt s at)
-  unfolding datesHold
-  dates-are t b e r eb ee er = rw (← eb, ← ee) er
-
-  -- pair j at phase x
-  abbrev pub spanAt : ℕ → ℕ → Bool
-  spanAt x j = within (offsetAt s (at + 10) j) (offsetAt s (at + 10) j + lengthAt s (at + 10) j) x
-
-  module _ (x n : ℕ) (count : n ≡ pairsAt s at) where
-    pairs-below : pairsHold x (hoursAt s at) ≡ anyBelow n (spanAt x)
-    unfolding pairsHold
-    pairs-below =
-        list-any (λ (p : Pair). within (p .offset) (p .offset + p .length) x) (pairsAt s at) (pairAt s (at + 10))
-        ∙ ap (λ (m : ℕ). anyBelow m (spanAt x)) (sym count)
-
-    pub span-is : (j o l : ℕ) (r : Bool) → o ≡ offsetAt s (at + 10) j → l ≡ lengthAt s (at + 10) j → r ≡ within o (o + l) x → spanAt x j ≡ r
-    span-is j o l r eo el er = sym (rw (← eo, ← el) er)
-
-    pub pairs-yes : (j : ℕ) → j < n → spanAt x j ≡ true → true ≡ pairsHold x (hoursAt s at)
-    pairs-yes j l e = sym (pairs-below ∙ any-stop _ n j l e)
-
-    pub pairs-no : (j : ℕ) → j ≤ n → n ≤ j → anyBelow j (spanAt x) ≡ false → false ≡ pairsHold x (hoursAt s at)
-    pairs-no j l m e = sym (pairs-below ∙ ap (λ (k : ℕ). anyBelow k (spanAt x)) (le-antisymm m l) ∙ e)
+use Rattle.minutes.specs.First.{firstIn}
+use Rattle.hours.specs.Inside.{pairsHold, recordsThat}
+use Rattle.rota.specs.RotaBytes.{headerLength}
+use Rattle.grid.specs.Grid.{fieldMask, InCells}
 
 -- ---- one field
 module _ (c dates pairs b e o f t : ℕ) (first : t ≡ firstIn c b o f) where
@@ -66,10 +35,10 @@ module _ (s : List ℕ) (h : ℕ) (cells : List ℕ) where
   pub in-cells-none : (l : List ℕ) → InCells s h cells 0 l
   in-cells-none l = record { each = λ j k. absurd (not-suc-le-zero k) }
 
-  pub in-cells-more : (n v : ℕ) (l : List ℕ) → InCells s h cells n l → n < length l → v ≡ recordsThat s h (pairsHold (getD cells n 0)) → InCells s h cells (n + 1) (set l n v)
+  pub in-cells-more : (n v : ℕ) (l : List ℕ) → InCells s h cells n l → n < length l → v ≡ recordsThat s headerLength h (pairsHold (getD cells n 0)) → InCells s h cells (n + 1) (set l n v)
   in-cells-more n v l p k ev = record { each = each }
     where
-      each : (j : ℕ) → j < n + 1 → getD (set l n v) j 0 ≡ recordsThat s h (pairsHold (getD cells j 0))
+      each : (j : ℕ) → j < n + 1 → getD (set l n v) j 0 ≡ recordsThat s headerLength h (pairsHold (getD cells j 0))
       each j m =
           ⊎-elim
           (λ (e : j ≡ n). rw e (getD-set-same l n v 0 k ∙ ev))

@@ -1,21 +1,21 @@
 -- The eras, the cells and the field masks of a rota's bytes, as the code lays them out in arrays.
 use Prim.Native.Nat.{ℕ, _+_, _*_, _≤_, _<_}
 use mathlib.Core.Path.{_≡_}
-use mathlib.Core.Bool.{Bool}
 use mathlib.Core.List.{List, _++_, map}
 use lib.Dec.{ltb}
 use lib.ListN.{length, getD, take, drop}
 use Rattle.ground.specs.Choice.{pick}
-use Rattle.ground.specs.Search.{any}
-use Rattle.bitset.specs.Sets.{setOf, insert, intersection}
-use Rattle.minutes.specs.Minutes.{E, within}
-use Rattle.hours.specs.Hours.{Pair, Hours}
+use Rattle.bitset.specs.Sets.{insert, intersection}
+use Rattle.minutes.specs.Minutes.{E}
+use Rattle.minutes.specs.First.{firstIn}
+use Rattle.hours.specs.Hours.{Hours}
 use Rattle.hours.specs.HoursBytes.{recordAt, hoursAt}
+use Rattle.hours.specs.Inside.{pairsHold, recordsThat}
 use Rattle.rota.specs.RotaBytes.{headerLength, cycleOf, hoursOf, rotaOf}
 use Rattle.rota.specs.RotaRefusals.{rotaJudged}
 use Rattle.derivation.specs.Cuts.{Gap, insertCut, sortInto}
 use Rattle.derivation.specs.Rewriting.{eraCuts, cellCuts, fields}
-use Rattle.derivation.specs.Masks.{firstIn, maskOf}
+use Rattle.derivation.specs.Masks.{maskOf}
 
 -- among the first n values of an array a, those before r are less than x, and the one at r is not
 pub record Placed (a : List ℕ) (n x r : ℕ) : Type 0 where
@@ -31,19 +31,9 @@ pub record Added (a : List ℕ) (n : ℕ) (vs b : List ℕ) (m : ℕ) : Type 0 w
   pub some : 0 < length vs → 0 < m
   pub long : length b ≡ length a
 
--- an hours record by its two parts: its dates at minute t, and its pairs at phase x
-unfoldable pub datesHold : ℕ → Hours → Bool
-datesHold t h = within (h .begin) (h .end) t
-
-unfoldable pub pairsHold : ℕ → Hours → Bool
-pairsHold x h = any (λ (p : Pair). within (p .offset) (p .offset + p .length) x) (h .pairs)
-
--- record k of a rota's bytes, and the numbers of the first h records that pass
+-- record k of a rota's bytes
 abbrev pub hoursNo : List ℕ → ℕ → Hours
 hoursNo s k = hoursAt s (recordAt s headerLength k)
-
-unfoldable pub recordsThat : List ℕ → ℕ → (Hours → Bool) → ℕ
-recordsThat s h f = setOf h (λ k. f (hoursNo s k))
 
 -- the mask of the field with the era from b to e and the cell from o to f, by the records whose dates hold in the era and those whose pairs hold
 -- in the cell
@@ -56,7 +46,7 @@ gapAt l k = record { low = getD l k 0; high = getD l (k + 1) 0 }
 
 -- for each of the first n cells, the records whose pairs hold in it
 pub record InCells (s : List ℕ) (h : ℕ) (cells : List ℕ) (n : ℕ) (pairs : List ℕ) : Type 0 where
-  pub each : (j : ℕ) → j < n → getD pairs j 0 ≡ recordsThat s h (pairsHold (getD cells j 0))
+  pub each : (j : ℕ) → j < n → getD pairs j 0 ≡ recordsThat s headerLength h (pairsHold (getD cells j 0))
 
 -- the mask in cell j of the era from b to e
 unfoldable pub maskIn : ℕ → ℕ → ℕ → ℕ → List ℕ → List ℕ → ℕ → ℕ

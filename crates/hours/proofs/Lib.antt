@@ -1,4 +1,5 @@
 pub mod PairLaws
+pub mod HoldsLaws
 pub mod RefLaws
 pub mod JudgeLaws
 pub mod WalkLaws

@@ -1,19 +1,15 @@
--- Pairs: what a loop over the pairs of a record finds at pair j, whose offset and length are o and n.
+-- Pairs: what a judging loop over the pairs of a record finds at pair j, whose offset and length are o and n.
 -- Assumes nothing.
-use Prim.Native.Nat.{ℕ, _+_, _%_}
-use mathlib.Core.Path.{_≡_, refl, sym, _∙_, ap, ap₂}
+use Prim.Native.Nat.{ℕ, _+_}
+use mathlib.Core.Path.{_≡_, refl, _∙_, ap, ap₂}
 use mathlib.Core.List.{List}
-use mathlib.Core.Bool.{Bool, true, false, _||_, _&&_}
+use mathlib.Core.Bool.{Bool, true, false, _||_}
 use native.Mathlib.Numerals.{add-one}
 use lib.Dec.{eqb, ltb}
 use Rattle.ground.specs.Judgement.{refuse, inTurn}
 use Rattle.ground.specs.Outcome.{Outcome, refused, given, outcome}
-use Rattle.ground.specs.Search.{any, anyBelow}
 use Rattle.ground.proofs.OutcomeLaws.{outcome-refused, outcome-given}
-use Rattle.ground.proofs.SearchLaws.{list-any}
-use Rattle.minutes.specs.Minutes.{within, inPhase}
-use Rattle.hours.specs.Hours.{Pair, holds}
-use Rattle.hours.specs.HoursBytes.{offsetAt, lengthAt, pairAt, beginAt, endAt, pairsAt, hoursAt}
+use Rattle.hours.specs.HoursBytes.{offsetAt, lengthAt, pairsAt}
 use Rattle.hours.specs.HoursRefusals.{earliest, pairJudged}
 
 module _ (s : List ℕ) (at j o n : ℕ) (eo : o ≡ offsetAt s at j) (en : n ≡ lengthAt s at j) where
@@ -34,11 +30,6 @@ module _ (s : List ℕ) (at j o n : ℕ) (eo : o ≡ offsetAt s at j) (en : n �
   unfolding earliest
   earliest-more = rw (add-one j, eo, en)
 
-  -- at phase x of minute t
-  pub pair-phase : (c t x : ℕ) (r : Bool) → x ≡ t % c → r ≡ within o (o + n) x → inPhase c (offsetAt s at j) (lengthAt s at j) t ≡ r
-  unfolding inPhase
-  pair-phase c t x r ex er = sym (rw (← eo, ← en, ← ex) er)
-
 -- the pairs of a record, n in number, decide: a refusal, or none
 module _ (s : List ℕ) (c at n bad : ℕ) (o : Outcome ℕ) (en : n ≡ pairsAt s at) (eb : bad ≡ inTurn (pairJudged s c (at + 10)) n) where
   pub pairs-refuse : (bad ≡ 0 → ⊥) → outcome (inTurn (pairJudged s c (at + 10)) (pairsAt s at)) (pairsAt s at) ≡ o → refused bad ≡ o
@@ -46,22 +37,6 @@ module _ (s : List ℕ) (c at n bad : ℕ) (o : Outcome ℕ) (en : n ≡ pairsAt
 
   pub pairs-pass : bad ≡ 0 → outcome (inTurn (pairJudged s c (at + 10)) (pairsAt s at)) (pairsAt s at) ≡ o → given n ≡ o
   pairs-pass h e = outcome-given bad n h ∙ ap₂ outcome eb en ∙ ap (λ (m : ℕ). outcome (inTurn (pairJudged s c (at + 10)) m) (pairsAt s at)) en ∙ e
-
--- whether a record holds: its dates first, then its pairs
-module _ (s : List ℕ) (c at t b e : ℕ) (d : Bool) (eb : b ≡ beginAt s at) (ee : e ≡ endAt s at) (ed : d ≡ within b e t) where
-  dated : d ≡ within (beginAt s at) (endAt s at) t
-  dated = rw (← eb, ← ee) ed
-
-  pub holds-in : d ≡ true → (n : ℕ) (r : Bool) → n ≡ pairsAt s at
-      → r ≡ anyBelow n (λ j. inPhase c (offsetAt s (at + 10) j) (lengthAt s (at + 10) j) t) → r ≡ holds c (hoursAt s at) t
-  unfolding holds
-  holds-in h n r en er =
-      er ∙ ap (λ (m : ℕ). anyBelow m (λ j. inPhase c (offsetAt s (at + 10) j) (lengthAt s (at + 10) j) t)) en
-      ∙ sym (ap₂ _&&_ (sym dated ∙ h) (list-any (λ (p : Pair). inPhase c (p .offset) (p .length) t) (pairsAt s at) (pairAt s (at + 10))))
-
-  pub holds-out : d ≡ false → false ≡ holds c (hoursAt s at) t
-  unfolding holds
-  holds-out h = sym (ap (λ (x : Bool). x && any (λ (p : Pair). inPhase c (p .offset) (p .length) t) (hoursAt s at .pairs)) (sym dated ∙ h))
 
 pub earliest-none : (s : List ℕ) (at : ℕ) → 0 ≡ earliest s at 0
 unfolding earliest

@@ -12,7 +12,7 @@ use Rattle.bitset.proofs.SetLaws.{has-below}
 use Rattle.minutes.specs.Minutes.{E}
 use Rattle.hours.specs.Hours.{Hours, holds, never, refHolds, dangling}
 use Rattle.hours.specs.HoursBytes.{recordAt, hoursAt, hoursFrom}
-use Rattle.hours.specs.Answers.{holding, refIn}
+use Rattle.hours.specs.Inside.{recordsThat, holding, refIn}
 use Rattle.hours.specs.declared.HoursRef.{HoursRef}
 use Rattle.hours.specs.declared.HoursRef.the-variants.{Always, Numbered}
 
@@ -31,7 +31,7 @@ ref-in s c from h t set (Numbered k) l e d =
     ap (λ (x : ℕ). has x k) e ∙ held k m ∙ ap (λ (x : Hours). holds c x t) (sym (named k m))
   where
     held : (k : ℕ) → k < h → has (holding s c from h t) k ≡ holds c (hoursAt s (recordAt s from k)) t
-    held k m = unfold holding in has-below h _ k m
+    held k m = unfold holding recordsThat in has-below h _ k m
 
     named : (k : ℕ) → k < h → getD (hoursFrom s from h) k never ≡ hoursAt s (recordAt s from k)
     named k m = unfold hoursFrom in get-listOf h _ never k m

@@ -1,7 +1,8 @@
 -- The walk over hours records, from `from` on.
---     Walked             what a reader's walk keeps: before the first record, at a refusal, one record more
---     place-..           where the records of accepted bytes lie
---     Held               what a walk that gathers the records that hold keeps
+--     Walked, walked-..     what a reader's walk keeps: before the first record, at a refusal, one record more
+--     place-more            where the records of accepted bytes lie
+--     Passed, passed-..     what a walk over accepted records keeps
+--     Gathered, gather-..   and where it gathers the numbers of those that meet a test
 -- Assumes nothing.
 use Prim.Native.Nat.{ℕ, _+_, _*_, _≤_, _<_}
 use mathlib.Core.Path.{_≡_, refl, sym, _∙_, ap}
@@ -15,12 +16,13 @@ use Rattle.ground.specs.Judgement.{inTurn}
 use Rattle.ground.specs.Outcome.{refused, given}
 use Rattle.ground.proofs.OutcomeLaws.{refused-by, given-by}
 use Rattle.ground.proofs.JudgementLaws.{turns-none, turns-more, turns-stop, turns-all}
-use Rattle.bitset.specs.Sets.{setOf, insert}
+use Rattle.bitset.specs.Sets.{insert}
 use Rattle.bitset.proofs.SetLaws.{setOf-none, turn-in, turn-out}
-use Rattle.hours.specs.Hours.{holds}
+use Rattle.hours.specs.Hours.{Hours}
 use Rattle.hours.specs.HoursBytes.{pairsAt, recordAt, pairsBefore, hoursAt}
 use Rattle.hours.specs.HoursRefusals.{hoursJudged, recordJudged}
-use Rattle.hours.specs.Answers.{hoursOutcome, RecordsRead, holding}
+use Rattle.hours.specs.Answers.{hoursOutcome}
+use Rattle.hours.specs.Inside.{RecordsRead, recordsThat}
 use Rattle.hours.proofs.JudgeLaws.{HoursFine, hours-fine}
 
 -- k of the h records are read and none is refused; the next begins at `at`, and there were `total` pairs
@@ -120,38 +122,47 @@ module _ (s : List ℕ) (from : ℕ) where
     unfolding recordJudged
     record-fine a k l = hours-fine _ _ _ _ (turns-all _ _ k l a)
 
-    -- the set holds the first k records that hold at t, and the next begins at `at`
-    pub record Held (t k set at : ℕ) : Type 0 where
-      pub below : k ≤ h
-      pub here : at ≡ recordAt s from k
-      pub gathered : set ≡ setOf k (λ k. holds c (hoursAt s (recordAt s from k)) t)
+-- ---- a walk over accepted records
+-- the walk is past k of the h records, and the next begins at `at`
+pub record Passed (s : List ℕ) (from h k at : ℕ) : Type 0 where
+  pub below : k ≤ h
+  pub here : at ≡ recordAt s from k
 
-    pub held-none : (t : ℕ) → Held t 0 0 from
-    held-none t = record { below = omega arith; here = sym recordAt-zero; gathered = setOf-none _ }
+pub passed-none : (s : List ℕ) (from h : ℕ) → Passed s from h 0 from
+passed-none s from h = record { below = omega arith; here = sym (recordAt-zero s from) }
 
-    pub held-within : inTurn (recordJudged s c from) h ≡ 0 → (t k set at : ℕ) → Held t k set at → k < h → at + 10 + 4 * pairsAt s at ≤ length s
-    held-within a t k set at w l = rw (w .here) (record-fine a k l .within)
+module _ {s : List ℕ} {from h k at : ℕ} (w : Passed s from h k at) where
+  pub passed-more : {r : ℕ} → k < h → r ≡ at + 10 + 4 * pairsAt s at → Passed s from h (k + 1) r
+  passed-more l e = record { below = omega arith; here = e ∙ place-more s from k at (pairsAt s at) (w .here) refl }
 
-    module _ (t k set at : ℕ) (w : Held t k set at) (l : k < h) (top : h ≤ 64) where
-      tested : (b : Bool) → b ≡ holds c (hoursAt s at) t → b ≡ holds c (hoursAt s (recordAt s from k)) t
-      tested b e = e ∙ ap (λ (i : ℕ). holds c (hoursAt s i) t) (w .here)
+  pub passed-end : h ≤ k → k ≡ h
+  passed-end l = le-antisymm (w .below) l
 
-      pub held-in : (b : Bool) (n y : ℕ) → b ≡ holds c (hoursAt s at) t → n ≡ pairsAt s at → b ≡ true → y ≡ insert set k → Held t (k + 1) y (at + 10 + 4 * n)
-      held-in b n y eb en e ey =
-          record {
-            below = omega arith;
-            here = place-more k at n (w .here) en;
-            gathered = turn-in k _ (omega arith) set y b (w .gathered) (tested b eb) e ey;
-          }
+  pub passed-fine : (c : ℕ) → inTurn (recordJudged s c from) h ≡ 0 → k < h → HoursFine s c at (pairsBefore s from k)
+  passed-fine c a l = rw (w .here) (record-fine s from c h a k l)
 
-      pub held-out : (b : Bool) (n y : ℕ) → b ≡ holds c (hoursAt s at) t → n ≡ pairsAt s at → b ≡ false → y ≡ set → Held t (k + 1) y (at + 10 + 4 * n)
-      held-out b n y eb en e ey =
-          record {
-            below = omega arith;
-            here = place-more k at n (w .here) en;
-            gathered = turn-out k _ (omega arith) set y b (w .gathered) (tested b eb) e ey;
-          }
+-- of the records that the walk is past, the set has the numbers of those that meet a test
+pub record Gathered (s : List ℕ) (from h : ℕ) (f : Hours → Bool) (set at k : ℕ) : Type 0 where
+  pub passed : Passed s from h k at
+  pub gathered : set ≡ recordsThat s from k f
 
-    pub held-all : (t k set at : ℕ) → Held t k set at → h ≤ k → set ≡ holding s c from h t
-    unfolding holding
-    held-all t k set at w l = w .gathered ∙ ap (λ (n : ℕ). setOf n (λ k. holds c (hoursAt s (recordAt s from k)) t)) (le-antisymm (w .below) l)
+module _ (s : List ℕ) (from h : ℕ) (f : Hours → Bool) where
+  pub gather-none : Gathered s from h f 0 from 0
+  unfolding recordsThat
+  gather-none = record { passed = passed-none s from h; gathered = setOf-none _ }
+
+  module _ {set at k r : ℕ} {b : Bool} (w : Gathered s from h f set at k) (l : k < h) (top : h ≤ 64) (test : b ≡ f (hoursAt s at))
+      (e : r ≡ at + 10 + 4 * pairsAt s at) where
+    tested : b ≡ f (hoursAt s (recordAt s from k))
+    tested = test ∙ ap (λ (i : ℕ). f (hoursAt s i)) (w .passed .here)
+
+    pub gather-in : {y : ℕ} → b ≡ true → y ≡ insert set k → Gathered s from h f y r (k + 1)
+    unfolding recordsThat
+    gather-in {y} q ey = record { passed = passed-more (w .passed) l e; gathered = turn-in k _ (omega arith) set y b (w .gathered) tested q ey }
+
+    pub gather-out : {y : ℕ} → b ≡ false → y ≡ set → Gathered s from h f y r (k + 1)
+    unfolding recordsThat
+    gather-out {y} q ey = record { passed = passed-more (w .passed) l e; gathered = turn-out k _ (omega arith) set y b (w .gathered) tested q ey }
+
+  pub gather-all : {set at k : ℕ} → Gathered s from h f set at k → h ≤ k → set ≡ recordsThat s from h f
+  gather-all w l = w .gathered ∙ ap (λ (n : ℕ). recordsThat s from n f) (passed-end (w .passed) l)

@@ -3,3 +3,4 @@ pub mod HoursBytes
 pub mod HoursRefusals
 pub mod HoursWell
 pub mod Answers
+pub mod Inside

@@ -1,16 +1,15 @@
 // Hours: references, and records read from their bytes.
 ghost use mathlib.Core.Path.{_≡_};
 ghost use mathlib.Core.Bool.{false, _||_};
-ghost use Prim.Native.Nat.{_+_, _*_, _%_, _≤_, _<_};
+ghost use Prim.Native.Nat.{_+_, _*_, _≤_, _<_};
 ghost use lib.Dec.{eqb, ltb};
 ghost use lib.ListN.{length};
 ghost use Rattle.ground.specs.Judgement.{inTurn};
-ghost use Rattle.ground.specs.Search.{anyBelow};
-ghost use Rattle.minutes.specs.Minutes.{inPhase};
 ghost use Rattle.hours.specs.Hours.{refOf, dangling, holds};
-ghost use Rattle.hours.specs.HoursBytes.{pairsAt, offsetAt, lengthAt, hoursAt};
+ghost use Rattle.hours.specs.HoursBytes.{pairsAt, hoursAt};
 ghost use Rattle.hours.specs.HoursRefusals.{pairJudged, recordJudged};
-ghost use Rattle.hours.specs.Answers.{hoursGiven, hoursOutcome, RecordsRead, holding, refIn};
+ghost use Rattle.hours.specs.Answers.{hoursGiven, hoursOutcome};
+ghost use Rattle.hours.specs.Inside.{RecordsRead, datesHold, pairsHold, holding, refIn};
 
 // An hours reference: always, or the number of an hours record.
 pub enum HoursRef {
@@ -156,15 +155,32 @@ pub fn judge_all(s: &[u8], cycle: u32, from: usize, h: usize) -> Walk
     Walk { code: 0, at }
 }
 
-// Whether one of the n pairs that begin at `at` has phase x.
-fn any_pair(s: &[u8], at: usize, n: usize, cycle: u32, t: u32, x: u32) -> bool
-    requires { ⌜ (at + 4 * n ≤ length (now s)) × (x ≡ t % cycle) ⌝ }
-    ensures { λ r. ⌜ r ≡ anyBelow n (λ j. inPhase cycle (offsetAt (now (s .entry)) at j) (lengthAt (now (s .entry)) at j) t) ⌝ }
+// Where the record after the one at `at` begins.
+pub fn next_record(s: &[u8], at: usize) -> usize
+    requires { ⌜ at + 10 + 4 * pairsAt (now s) at ≤ length (now s) ⌝ }
+    ensures { λ r. ⌜ r ≡ at + 10 + 4 * pairsAt (now (s .entry)) at ⌝ }
 {
+    at + 10 + 4 * (endian::read16(s, at + 8) as usize)
+}
+
+// Whether minute t is in the dates of the record at `at`.
+pub fn dates_hold(s: &[u8], at: usize, t: u32) -> bool
+    requires { ⌜ at + 8 ≤ length (now s) ⌝ }
+    ensures { λ r. ⌜ r ≡ datesHold t (hoursAt (now (s .entry)) at) ⌝ }
+{
+    minutes::during(endian::read32(s, at), endian::read32(s, at + 4), t)
+}
+
+// Whether phase x is in a pair of the record at `at`.
+pub fn pairs_hold(s: &[u8], at: usize, x: u32) -> bool
+    requires { ⌜ at + 10 + 4 * pairsAt (now s) at ≤ length (now s) ⌝ }
+    ensures { λ r. ⌜ r ≡ pairsHold x (hoursAt (now (s .entry)) at) ⌝ }
+{
+    let n = endian::read16(s, at + 8) as usize;
     let mut j = 0;
     while j < n {
-        let offset = endian::read16(s, at + 4 * j) as u32;
-        let length = endian::read16(s, at + 4 * j + 2) as u32;
+        let offset = endian::read16(s, at + 10 + 4 * j) as u32;
+        let length = endian::read16(s, at + 10 + 4 * j + 2) as u32;
         if minutes::in_span(offset, length, x) {
             return true;
         }
@@ -178,11 +194,8 @@ pub fn record_holds(s: &[u8], cycle: u32, at: usize, t: u32) -> bool
     requires { ⌜ (at + 10 + 4 * pairsAt (now s) at ≤ length (now s)) × (0 < cycle) ⌝ }
     ensures { λ r. ⌜ r ≡ holds cycle (hoursAt (now (s .entry)) at) t ⌝ }
 {
-    let begin = endian::read32(s, at);
-    let end = endian::read32(s, at + 4);
-    if minutes::during(begin, end, t) {
-        let n = endian::read16(s, at + 8) as usize;
-        any_pair(s, at + 10, n, cycle, t, minutes::phase(cycle, t))
+    if dates_hold(s, at, t) {
+        pairs_hold(s, at, minutes::phase(cycle, t))
     } else {
         false
     }
@@ -200,7 +213,7 @@ pub fn holding_at(s: &[u8], cycle: u32, from: usize, h: usize, t: u32) -> u64
         if record_holds(s, cycle, at, t) {
             set = bitset::with(set, k as u32);
         }
-        at = at + 10 + 4 * (endian::read16(s, at + 8) as usize);
+        at = next_record(s, at);
         k += 1;
     }
     set

@@ -9,7 +9,8 @@ use Rattle.hours.specs.HoursBytes.{recordAt}
 use Rattle.hours.specs.HoursRefusals.{recordJudged}
 use Rattle.rota.specs.RotaBytes.{headerLength, cycleOf, hoursOf, usersOf, permissionsOf, rolesOf, userRowsOf, permissionRowsOf, rolesAt, userRowsAt, permissionRowsAt}
 use Rattle.rota.specs.RotaRefusals.{headerJudged}
-use Rattle.rota.specs.Answers.{countsOf, layoutOf, Measured}
+use Rattle.rota.specs.Answers.{countsOf}
+use Rattle.rota.specs.Inside.{layoutOf, Measured}
 use Rattle.rota.specs.declared.Counts.{Counts}
 
 pub record CountsAre (s : List ℕ) (n : Counts) : Type 0 where

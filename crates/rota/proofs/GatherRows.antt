@@ -11,9 +11,9 @@ use Rattle.bitset.specs.Sets.{has}
 use Rattle.endian.specs.Numbers.{u8At}
 use Rattle.hours.specs.Hours.{dangling, refOf}
 use Rattle.hours.specs.declared.HoursRef.{HoursRef}
-use Rattle.hours.specs.Answers.{refIn}
+use Rattle.hours.specs.Inside.{refIn}
 use Rattle.rota.specs.RotaBytes.{hoursOf, roleRef, rowAt, rowAtByte}
-use Rattle.rota.specs.Answers.{rowIn, RowsFine, RolesFine}
+use Rattle.rota.specs.Inside.{rowIn, RowsFine, RolesFine}
 
 abbrev pub ofNumber : List ℕ → ℕ → ℕ → ℕ → ℕ → Bool
 ofNumber s set at x k = eqb (rowAt s at k .number) x && rowIn s set at k

@@ -6,6 +6,7 @@ pub mod ReadLaws
 pub mod RotaWellLaws
 pub mod RotaBytesLaws
 pub mod RotaTheorems
+pub mod AlikeLaws
 pub mod GatherRows
 pub mod QuestionLaws
 pub mod LocatedLaws

@@ -13,11 +13,11 @@ use Rattle.bitset.specs.Sets.{setOf, intersection, Lowest}
 use Rattle.bitset.proofs.GatherLaws.{lowest-of, none-of}
 use Rattle.minutes.specs.Minutes.{E}
 use Rattle.hours.specs.HoursRefusals.{recordJudged}
-use Rattle.hours.specs.Answers.{holding}
+use Rattle.hours.specs.Inside.{holding}
 use Rattle.policy.specs.Policy.{argumentsJudged, holdersAt}
 use Rattle.rota.specs.Rota.{through, answer, policyOf}
 use Rattle.rota.specs.RotaBytes.{headerLength, cycleOf, hoursOf, usersOf, rolesOf, userRowsOf, rolesAt, userRowsAt, permissionRowsAt, roleRef, rotaOf}
-use Rattle.rota.specs.Answers.{layoutOf, layoutOutcome, Located, RowsFine, RolesFine, rolesEnabled, rolesOfNumber, rolesAssigned, usersWith, questionRoles}
+use Rattle.rota.specs.Inside.{layoutOf, layoutOutcome, Located, RowsFine, RolesFine, rolesEnabled, rolesOfNumber, rolesAssigned, usersWith, questionRoles}
 use Rattle.rota.specs.declared.Layout.{Layout}
 use Rattle.rota.proofs.RotaFine.{RotaFine, rota-fine}
 use Rattle.rota.proofs.CountsLaws.{CountsAre, counts-are}

@@ -18,7 +18,7 @@ use Rattle.ground.proofs.SequenceLaws.{listOf-length, get-listOf}
 use Rattle.bitset.specs.Sets.{has, setOf, intersection}
 use Rattle.bitset.proofs.SetLaws.{intersection-setOf, setOf-same, has-below}
 use Rattle.minutes.specs.Minutes.{E}
-use Rattle.hours.specs.Answers.{holding, refIn}
+use Rattle.hours.specs.Inside.{holding, refIn}
 use Rattle.hours.specs.declared.HoursRef.{HoursRef}
 use Rattle.hours.specs.declared.HoursRef.the-variants.{Numbered}
 use Rattle.hours.proofs.RefLaws.{ref-in}
@@ -27,7 +27,7 @@ use Rattle.policy.proofs.PolicyLaws.{yes-is}
 use Rattle.rota.specs.Rota.{enabled, assigned, hasUser, hasPermission, through, answer, policyOf}
 use Rattle.rota.specs.RotaBytes.{headerLength, cycleOf, hoursOf, usersOf, permissionsOf, rolesOf, userRowsOf, permissionRowsOf, userRowsAt, permissionRowsAt, roleRef, rowAt, rotaOf}
 use Rattle.rota.specs.RotaRefusals.{rotaJudged}
-use Rattle.rota.specs.Answers.{RowsFine, rowIn, rolesOfNumber, rolesAssigned, rolesEnabled, usersWith}
+use Rattle.rota.specs.Inside.{RowsFine, rowIn, rolesOfNumber, rolesAssigned, rolesEnabled, usersWith}
 use Rattle.rota.proofs.RotaFine.{RotaFine, rota-fine}
 
 -- the rows of an accepted rota keep their ranges

@@ -12,7 +12,8 @@ use Rattle.ground.proofs.OutcomeLaws.{outcome-refused, outcome-given, refused-b
 use Rattle.hours.specs.HoursRefusals.{recordJudged}
 use Rattle.rota.specs.RotaBytes.{headerLength, cycleOf, hoursOf, usersOf, permissionsOf, rolesOf, userRowsOf, permissionRowsOf, userRowsAt, permissionRowsAt, endsAt}
 use Rattle.rota.specs.RotaRefusals.{headerJudged, roleJudged, rowJudged, rotaJudged}
-use Rattle.rota.specs.Answers.{restJudged, countsOf, readOutcome, layoutOf, layoutOutcome}
+use Rattle.rota.specs.Answers.{countsOf, readOutcome}
+use Rattle.rota.specs.Inside.{restJudged, layoutOf, layoutOutcome}
 use Rattle.rota.specs.declared.Layout.{Layout}
 
 -- rows judged with other names for the same counts

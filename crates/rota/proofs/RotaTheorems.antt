@@ -13,7 +13,7 @@ use mathlib.Core.Option.{none, some}
 use native.Mathlib.Nat.{lt-trans}
 use native.Mathlib.Omega.{arith}
 use lib.Dec.{leb, ltb}
-use lib.ListN.{length, getD, List·getD-eq-default}
+use lib.ListN.{length, List·getD-eq-default}
 use Rattle.ground.specs.Search.{any}
 use Rattle.ground.proofs.BoolLaws.{and-three, and-all, eq-ext, clash}
 use Rattle.ground.proofs.SearchLaws.{lowest-is, lowest-none, lowest-out, lowest-no}
@@ -23,19 +23,13 @@ use Rattle.endian.specs.Numbers.{Bytes}
 use Rattle.hours.specs.Hours.{holds, refHolds, never}
 use Rattle.hours.specs.declared.HoursRef.{HoursRef}
 use Rattle.hours.specs.declared.HoursRef.the-variants.{Numbered}
-use Rattle.rota.specs.Rota.{Rota, refOn, roleHours, enabled, hasUser, hasPermission, through, answer}
+use Rattle.rota.specs.Rota.{Rota, refOn, enabled, hasUser, hasPermission, through, answer}
 use Rattle.rota.specs.RotaBytes.{rotaBytes, rotaOf}
 use Rattle.rota.specs.RotaRefusals.{rotaJudged}
 use Rattle.rota.specs.RotaWell.{RotaWell}
+use Rattle.rota.specs.Through.{Through}
 use Rattle.rota.proofs.RotaWellLaws.{judged-iff}
 use Rattle.rota.proofs.RotaBytesLaws.{read-laid, in-rota, spell-rota}
-
--- role r is enabled at t, has user u and has permission p
-pub record Through (ρ : Rota) (u p t r : ℕ) : Type 0 where
-  pub below : r < length (ρ .roles)
-  pub on : enabled ρ r t ≡ true
-  pub user : hasUser ρ u r t ≡ true
-  pub permission : hasPermission ρ p r t ≡ true
 
 module _ (ρ : Rota) (u p t r : ℕ) where
   through-in : Through ρ u p t r → through ρ u p t r ≡ true

@@ -3,3 +3,7 @@ pub mod RotaBytes
 pub mod RotaRefusals
 pub mod RotaWell
 pub mod Answers
+pub mod Through
+pub mod Worked
+pub mod Alike
+pub mod Inside

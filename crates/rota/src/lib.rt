@@ -7,14 +7,15 @@ ghost use mathlib.Core.Bool.{false, _&&_};
 ghost use lib.Dec.{eqb};
 ghost use Rattle.bitset.specs.Sets.{has};
 ghost use Rattle.hours.specs.Hours.{dangling};
-ghost use Rattle.hours.specs.Answers.{refIn};
+ghost use Rattle.hours.specs.Inside.{refIn};
 ghost use Rattle.ground.specs.Outcome.{given};
 ghost use Rattle.minutes.specs.Minutes.{E};
 ghost use Rattle.policy.specs.Policy.{question, answerGiven, holdersAt};
 ghost use Rattle.rota.specs.Rota.{answer, policyOf};
 ghost use Rattle.rota.specs.RotaBytes.{rotaOf, rolesAt, rolesOf, hoursOf, usersOf, rowAtByte};
 ghost use Rattle.rota.specs.RotaRefusals.{countsOver, headerJudged, roleJudged, rowJudged, rotaJudged};
-ghost use Rattle.rota.specs.Answers.{rotaGiven, readOutcome, layoutGiven, layoutOutcome, countsOf, restJudged, Measured, Located, RowsFine, RolesFine, rolesOfNumber, rolesAssigned, rolesEnabled, usersWith, questionRoles};
+ghost use Rattle.rota.specs.Answers.{rotaGiven, readOutcome, countsOf};
+ghost use Rattle.rota.specs.Inside.{layoutGiven, layoutOutcome, restJudged, Measured, Located, RowsFine, RolesFine, rolesOfNumber, rolesAssigned, rolesEnabled, usersWith, questionRoles};
 use hours::decode;
 use policy::Answer;
 

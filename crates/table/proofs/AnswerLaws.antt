@@ -24,7 +24,7 @@ use Rattle.minutes.specs.Minutes.{covers}
 use Rattle.table.specs.Table.{Entry, Row, noEntry, entryAt, enabled, through, answer}
 use Rattle.table.specs.TableBytes.{cycleOf, derivedOf, rowsOf, entryOf, rowOf, tableOf}
 use Rattle.table.specs.TableRefusals.{sourceOf}
-use Rattle.table.specs.Answers.{Opened, RowInside, rowGrants}
+use Rattle.table.specs.Inside.{Opened, RowInside, rowGrants}
 use Rattle.table.specs.declared.Counts.{Counts}
 use Rattle.table.proofs.HeaderLaws.{counts-are}
 use Rattle.table.proofs.FineLaws.{TableFine, table-fine}

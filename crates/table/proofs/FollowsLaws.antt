@@ -4,13 +4,14 @@
 --     after-apart             two windows of one source role, one after the other, cover no minute both
 -- Assumes nothing.
 use Rattle.ground.proofs.BoolLaws.{or-yes, and-yes}
-use Prim.Native.Nat.{ℕ, _+_, _%_, _≤_, _<_}
+use Prim.Native.Nat.{ℕ, _+_, _≤_, _<_}
 use mathlib.Core.Path.{_≡_}
 use mathlib.Core.Logic.{_⊎_, inl, inr, ⊎-elim}
 use mathlib.Core.Bool.{true, or-true}
 use native.Mathlib.Omega.{arith}
 use borrow.Author.Tests.{ltb-true, leb-true, eqb-true, lt-ltb, le-leb, eq-eqb}
-use Rattle.minutes.specs.Minutes.{Window, covers, inPhase}
+use Rattle.minutes.specs.Minutes.{Window}
+use Rattle.minutes.proofs.WindowLaws.{In}
 use Rattle.table.specs.TableRefusals.{follows}
 
 -- a window w of source role q comes after a window v of source role r
@@ -54,22 +55,7 @@ after-trans r v q w p x o (inr (inl h)) (inr (inr k)) = inr (inr (omega arith))
 after-trans r v q w p x o (inr (inr h)) (inr (inl k)) = inr (inr (omega arith))
 after-trans r v q w p x o (inr (inr h)) (inr (inr k)) = inr (inr (omega arith))
 
--- where a window covers a minute
-pub record Covered (c : ℕ) (w : Window) (t : ℕ) : Type 0 where
-  pub begun : w .begin ≤ t
-  pub before-end : t < w .end
-  pub from-offset : w .offset ≤ t % c
-  pub in-length : t % c < w .offset + w .length
-
-pub covered : (c : ℕ) (w : Window) (t : ℕ) → covers c w t ≡ true → Covered c w t
-unfolding covers inPhase
-covered c w t h =
-    let a = and-yes _ _ h in
-    let b = and-yes _ _ (a .0) in
-    let d = and-yes _ _ (a .1) in
-    record { begun = leb-true _ _ (b .0); before-end = ltb-true _ _ (b .1); from-offset = leb-true _ _ (d .0); in-length = ltb-true _ _ (d .1) }
-
-pub after-apart : (r : ℕ) (v : Window) (q : ℕ) (w : Window) (c t : ℕ) → r ≡ q → After r v q w → Covered c v t → Covered c w t → ⊥
+pub after-apart : (r : ℕ) (v : Window) (q : ℕ) (w : Window) (c t : ℕ) → r ≡ q → After r v q w → In c v t → In c w t → ⊥
 after-apart r v q w c t e (inl h) f g = omega arith
 after-apart r v q w c t e (inr (inl h)) f g = omega arith
 after-apart r v q w c t e (inr (inr h)) f g = omega arith

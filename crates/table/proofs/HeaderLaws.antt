@@ -12,7 +12,8 @@ use Rattle.endian.specs.Numbers.{u16At}
 use Rattle.table.proofs.FineLaws.{header-fine}
 use Rattle.table.specs.TableBytes.{cycleOf, usersOf, permissionsOf, rolesOf, derivedOf, rowsOf}
 use Rattle.table.specs.TableRefusals.{headerJudged}
-use Rattle.table.specs.Answers.{countsOf, headerOutcome, Headed}
+use Rattle.table.specs.Answers.{countsOf}
+use Rattle.table.specs.Inside.{headerOutcome, Headed}
 use Rattle.table.specs.declared.Counts.{Counts}
 
 pub record CountsAre (s : List ℕ) (n : Counts) : Type 0 where

@@ -1,57 +1,32 @@
 -- Who holds a permission in an accepted table: the users of every row that covers the minute.
---     yes-any, some-member                  a lowest number is there exactly when one passes; a member of a set that is not empty
 --     holders-are                           the set that is asked for, by the rows
 --     gather-none, gather-more, gather-all  the loop over the rows
 -- Assumes nothing.
 use Rattle.ground.proofs.BoolLaws.{and-yes, and-both, eq-ext}
-use Prim.Native.Nat.{ℕ, zero, suc, _+_, _*_, _^_, _≤_, _<_}
-use mathlib.Core.Path.{_≡_, refl, sym, _∙_, ap, ap₂}
+use Prim.Native.Nat.{ℕ, _+_, _*_, _^_, _≤_, _<_}
+use mathlib.Core.Path.{_≡_, refl, sym, _∙_, ap}
 use mathlib.Core.List.{List}
-use mathlib.Core.Option.{Option, none, some}
-use mathlib.Core.Bool.{Bool, true, false, _&&_, _||_}
+use mathlib.Core.Bool.{Bool, true, false, _&&_}
 use native.Mathlib.Nat.{lt-of-lt-of-le}
-use native.Mathlib.Omega.{arith}
 use lib.Dec.{ltb}
 use lib.Pow.{pow-pos, pow-mono}
 use borrow.Author.Tests.{ltb-false}
 use Rattle.ground.specs.Choice.{pick}
-use Rattle.ground.specs.Search.{anyBelow, firstOf, lowestBelow}
-use Rattle.ground.proofs.SearchLaws.{any-none, any-stop, any-turn, any-out, any-no, any-none-of}
+use Rattle.ground.specs.Search.{anyBelow}
+use Rattle.ground.proofs.SearchLaws.{any-stop, any-out, any-none-of}
 use Rattle.bitset.specs.Sets.{has, setOf, union}
-use Rattle.bitset.proofs.SetLaws.{has-none, has-past, has-below, has-setOf, setOf-lt, setOf-has, setOf-same, ext}
-use Rattle.policy.specs.Policy.{isYes, holdsAny, holdersAt}
+use Rattle.bitset.proofs.SetLaws.{has-none, has-past, has-below, has-setOf, setOf-lt, some-member, ext}
+use Rattle.bitset.proofs.GatherLaws.{gather-start, gather-union}
+use Rattle.policy.specs.Policy.{holdsAny, holdersAt}
+use Rattle.policy.proofs.PolicyLaws.{yes-is}
 use Rattle.table.specs.Table.{answer, policyOf}
 use Rattle.table.specs.TableBytes.{usersOf, rowsOf, rowOf, tableOf}
 use Rattle.table.specs.TableRefusals.{sourceOf}
-use Rattle.table.specs.Answers.{Opened, rowUsers}
+use Rattle.table.specs.Inside.{Opened, rowUsers}
 use Rattle.table.specs.declared.Counts.{Counts}
 use Rattle.table.proofs.HeaderLaws.{counts-are}
 use Rattle.table.proofs.FineLaws.{TableFine, table-fine}
 use Rattle.table.proofs.AnswerLaws.{rowPlace, covering, owned, grant-parts, grant-of, grant-through, through-grant}
-
-yes-first : (o q : Option ℕ) → isYes (firstOf o q) ≡ (isYes o || isYes q)
-unfolding firstOf
-yes-first none q = refl
-yes-first (some k) q = refl
-
-yes-pick : (b : Bool) (k : ℕ) → isYes (pick b (some k) none) ≡ b
-yes-pick true k = refl
-yes-pick false k = refl
-
-pub yes-any : (n : ℕ) (f : ℕ → Bool) → isYes (lowestBelow n f) ≡ anyBelow n f
-unfolding lowestBelow anyBelow
-yes-any zero f = refl
-yes-any (suc n) f = yes-first _ _ ∙ ap₂ _||_ (yes-any n f) (yes-pick (f n) n)
-
--- a set that is not empty has a member
-pub some-member : (k x : ℕ) → 0 < x → x < 2 ^ k → anyBelow k (has x) ≡ true
-some-member k x p h = go (anyBelow k (has x)) refl
-  where
-    go : (b : Bool) → anyBelow k (has x) ≡ b → b ≡ true
-    go true e = refl
-    go false e =
-        let z : x ≡ 0 = ext k x 0 h (pow-pos k) (λ i l. any-no _ _ e i l ∙ sym (has-none i)) in
-        absurd (omega arith)
 
 -- user u is among the users of row i, which covers t
 abbrev pub rowHas : List ℕ → ℕ → ℕ → ℕ → Bool
@@ -78,7 +53,7 @@ module _ (s : List ℕ) (f : TableFine s) (t : ℕ) where
   unfolding holdsAny answer
   holds-row u h =
       let p = any-out _ _ h in
-      let r = any-out _ _ (sym (yes-any _ _) ∙ p .2) in
+      let r = any-out _ _ (sym (yes-is _ _) ∙ p .2) in
       let k = through-grant s f u (p .0) t (r .0) (r .2) in
       let g = grant-parts s u (p .0) t (k .row) (k .granted) in
       any-stop _ _ (k .row) (k .below) (row-has u (k .row) ∙ and-both (covering s t (k .row)) (has (owned s (k .row) .users) u) (g .0) (g .1))
@@ -92,7 +67,7 @@ module _ (s : List ℕ) (f : TableFine s) (t : ℕ) where
       let e = f .entries _ (f .rows k (w .1) .alone .derived) in
       let p = any-out _ _ (some-member _ _ (e .some-permission) (e .permissions-below)) in
       let g = grant-of s u (p .0) t k (c .0) (c .1) (p .2) in
-      any-stop _ _ (p .0) (p .1) (yes-any _ _ ∙ any-stop _ _ (sourceOf s k) (e .source) (grant-through s f u (p .0) t k (w .1) g))
+      any-stop _ _ (p .0) (p .1) (yes-is _ _ ∙ any-stop _ _ (sourceOf s k) (e .source) (grant-through s f u (p .0) t k (w .1) g))
 
   pub holds-is : (u : ℕ) → holdsAny (policyOf (tableOf s)) t u ≡ anyBelow (rowsOf s) (rowHas s t u)
   holds-is u = eq-ext _ _ (holds-row u) (row-holds u)
@@ -109,18 +84,6 @@ module _ (s : List ℕ) (f : TableFine s) (t : ℕ) where
       go : (u : ℕ) (b : Bool) → ltb u (usersOf s) ≡ b → anyBelow (rowsOf s) (rowHas s t u) ≡ (ltb u (usersOf s) && holdsAny (policyOf (tableOf s)) t u)
       go u true e = rw e (sym (holds-is u))
       go u false e = rw e (past u (ltb-false u (usersOf s) e))
-
--- a loop that gathers sets: `g j k` says that turn k puts j in, and turn k adds the set z
-module _ (g : ℕ → ℕ → Bool) where
-  pub gather-start : 0 ≡ setOf 64 (λ j. anyBelow 0 (g j))
-  gather-start = setOf-has 64 0 _ (pow-pos 64) (λ j l. has-none j ∙ sym (any-none (g j)))
-
-  pub gather-union : (k x y z : ℕ) → x ≡ setOf 64 (λ j. anyBelow k (g j)) → ((j : ℕ) → j < 64 → g j k ≡ has z j) → y ≡ union x z
-      → y ≡ setOf 64 (λ j. anyBelow (k + 1) (g j))
-  unfolding union
-  gather-union k x y z ex h ey =
-      ey
-      ∙ setOf-same 64 _ _ (λ j l. ap₂ _||_ (ap (λ (m : ℕ). has m j) ex ∙ has-below 64 _ j l) (sym (h j l)) ∙ sym (any-turn (g j) k))
 
 -- the loop over the rows, which begin at `first`
 unfoldable pub gathered : List ℕ → ℕ → ℕ → ℕ → ℕ

@@ -11,7 +11,8 @@ use Rattle.policy.specs.Policy.{argumentsJudged}
 use Rattle.table.specs.Table.{policyOf}
 use Rattle.table.specs.TableBytes.{derivedOf, tableOf}
 use Rattle.table.specs.TableRefusals.{headerJudged, entryJudged, rowJudged, tableJudged}
-use Rattle.table.specs.Answers.{countsOf, headerOutcome, readOutcome, Headed, Opened}
+use Rattle.table.specs.Answers.{countsOf, readOutcome}
+use Rattle.table.specs.Inside.{headerOutcome, Headed, Opened}
 use Rattle.table.specs.declared.Counts.{Counts}
 use Rattle.table.proofs.HeaderLaws.{counts-are}
 

@@ -16,7 +16,8 @@ use Rattle.minutes.specs.Minutes.{Window}
 use Rattle.table.specs.Table.{Row}
 use Rattle.table.specs.TableBytes.{cycleOf, derivedOf, rowAtByte, entryOf, rowOf}
 use Rattle.table.specs.TableRefusals.{rowBad, follows, sourceOf, followsBefore, rowJudged}
-use Rattle.table.specs.Answers.{countsOf, rowMade}
+use Rattle.table.specs.Answers.{countsOf}
+use Rattle.table.specs.Inside.{rowMade}
 use Rattle.table.specs.declared.Counts.{Counts}
 use Rattle.table.proofs.HeaderLaws.{counts-are}
 

@@ -16,10 +16,11 @@ use borrow.Author.Tests.{eqb-true}
 use Rattle.ground.proofs.SearchLaws.{list-any, any-out}
 use Rattle.ground.proofs.SequenceLaws.{get-listOf}
 use Rattle.minutes.specs.Minutes.{covers}
+use Rattle.minutes.proofs.WindowLaws.{In, covers-in}
 use Rattle.table.specs.Table.{Entry, noEntry, entryAt, enabled}
 use Rattle.table.specs.TableBytes.{cycleOf, derivedOf, rowsOf, entryOf, rowOf, tableOf}
 use Rattle.table.specs.TableRefusals.{sourceOf, followsBefore}
-use Rattle.table.proofs.FollowsLaws.{After, after-of, after-trans, Covered, covered, after-apart}
+use Rattle.table.proofs.FollowsLaws.{After, after-of, after-trans, after-apart}
 use Rattle.table.proofs.FineLaws.{TableFine}
 
 -- row j comes after row i
@@ -57,15 +58,15 @@ module _ (s : List ℕ) where
         (rows-after i j k (omega arith)) (row-next j m))
         (eq-or-lt-of-le (le-of-suc-le-suc l))
 
-    apart : (i j t : ℕ) → i < j → j < rowsOf s → sourceOf s i ≡ sourceOf s j → Covered (cycleOf s) (rowOf s i .window) t
-        → Covered (cycleOf s) (rowOf s j .window) t → ⊥
+    apart : (i j t : ℕ) → i < j → j < rowsOf s → sourceOf s i ≡ sourceOf s j → In (cycleOf s) (rowOf s i .window) t
+        → In (cycleOf s) (rowOf s j .window) t → ⊥
     apart i j t l m e p q = after-apart _ _ _ _ (cycleOf s) t e (rows-after i j l m) p q
 
     pub rows-one : (i j t : ℕ) → i < rowsOf s → j < rowsOf s → sourceOf s i ≡ sourceOf s j → covers (cycleOf s) (rowOf s i .window) t ≡ true
         → covers (cycleOf s) (rowOf s j .window) t ≡ true → i ≡ j
     rows-one i j t l m e p q =
-        let a = covered (cycleOf s) (rowOf s i .window) t p in
-        let b = covered (cycleOf s) (rowOf s j .window) t q in
+        let a : In (cycleOf s) (rowOf s i .window) t = covers-in p in
+        let b : In (cycleOf s) (rowOf s j .window) t = covers-in q in
         let x : ¬ (i < j) = λ k. apart i j t k m e a b in
         let y : ¬ (j < i) = λ k. apart j i t k l (sym e) b a in
         omega arith

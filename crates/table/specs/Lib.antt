@@ -3,3 +3,4 @@ pub mod TableBytes
 pub mod TableRefusals
 pub mod TableWell
 pub mod Answers
+pub mod Inside

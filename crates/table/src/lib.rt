@@ -11,8 +11,9 @@ ghost use Rattle.policy.specs.Policy.{question, answerGiven, holdersAt};
 ghost use Rattle.table.specs.Table.{answer, policyOf};
 ghost use Rattle.table.specs.TableBytes.{cycleOf, entryAtByte, rowAtByte, tableOf, headerBytes, entryBytes, rowBytes};
 ghost use Rattle.table.specs.TableRefusals.{entryBad, entryJudged, rowBad, follows, rowJudged, tableJudged};
-ghost use Rattle.table.specs.Answers.{countsOf, tableGiven, headerOutcome, readOutcome, windowGiven, windowMade, entryMade, rowMade};
-ghost use Rattle.table.specs.Answers.{Headed, Opened, RowInside, rowGrants, rowUsers, limitsBytes};
+ghost use Rattle.table.specs.Answers.{countsOf, tableGiven, readOutcome};
+ghost use Rattle.table.specs.Inside.{headerOutcome, windowGiven, windowMade, entryMade, rowMade};
+ghost use Rattle.table.specs.Inside.{Headed, Opened, RowInside, rowGrants, rowUsers, limitsBytes};
 use policy::Answer;
 
 // The counts of an accepted table's header.

@@ -1,5 +1,5 @@
 use Rattle.hours.proofs.RefLaws.{numbered-below}
-use Rattle.hours.specs.Answers.{refIn}
+use Rattle.hours.specs.Inside.{refIn}
 use native.Mathlib.Omega.{arith}
 use mathlib.Core.Path.{sym, ap, _∙_}
 use borrow.Author.Needs.{needs}

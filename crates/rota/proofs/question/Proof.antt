@@ -1,6 +1,6 @@
 use Rattle.rota.proofs.LocatedLaws.{located-by, arguments-as}
 use Rattle.rota.proofs.ReadLaws.{not-located}
-use Rattle.rota.specs.Answers.{layoutGiven}
+use Rattle.rota.specs.Inside.{layoutGiven}
 use Rattle.rota.specs.RotaBytes.{rotaOf}
 use Rattle.rota.specs.Rota.{policyOf}
 use Rattle.policy.proofs.QuestionOutcome.{bytes-refused, numbers-refused, question-given, minute-early}

@@ -1,5 +1,5 @@
 use Rattle.rota.proofs.ReadLaws.{read-refused, read-given}
-use Rattle.rota.specs.Answers.{layoutGiven}
+use Rattle.rota.specs.Inside.{layoutGiven}
 use mathlib.Core.Path.{sym, ap, _∙_}
 use borrow.Author.Needs.{needs}
 use Rattle.rota.proofs.read.Statement.{statement}

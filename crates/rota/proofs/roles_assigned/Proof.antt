@@ -1,6 +1,6 @@
 use borrow.Author.Needs.{needs}
 use Rattle.rota.proofs.GatherRows.{roleAt, row-within, row-refers}
-use Rattle.rota.specs.Answers.{rolesAssigned, rowIn}
+use Rattle.rota.specs.Inside.{rolesAssigned, rowIn}
 use Rattle.rota.specs.RotaBytes.{rolesOf}
 use Rattle.bitset.proofs.GatherLaws.{gather-none, gather-in, gather-out}
 use native.Mathlib.Nat.{le-antisymm}

@@ -1,8 +1,8 @@
 use borrow.Author.Needs.{needs}
 use Rattle.rota.proofs.GatherRows.{role-refers, role-tested}
-use Rattle.rota.specs.Answers.{rolesEnabled}
+use Rattle.rota.specs.Inside.{rolesEnabled}
 use Rattle.rota.specs.RotaBytes.{roleRef}
-use Rattle.hours.specs.Answers.{refIn}
+use Rattle.hours.specs.Inside.{refIn}
 use Rattle.bitset.proofs.SetLaws.{setOf-none, turn-in, turn-out}
 use native.Mathlib.Nat.{le-antisymm}
 use native.Mathlib.Omega.{arith}

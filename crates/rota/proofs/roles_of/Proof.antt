@@ -1,6 +1,6 @@
 use borrow.Author.Needs.{needs}
 use Rattle.rota.proofs.GatherRows.{ofNumber, roleAt, row-within, row-refers}
-use Rattle.rota.specs.Answers.{rolesOfNumber}
+use Rattle.rota.specs.Inside.{rolesOfNumber}
 use Rattle.rota.specs.RotaBytes.{rolesOf}
 use Rattle.bitset.proofs.GatherLaws.{gather-none, gather-in, gather-out}
 use native.Mathlib.Nat.{le-antisymm}

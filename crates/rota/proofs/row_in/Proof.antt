@@ -1,4 +1,4 @@
-use Rattle.hours.specs.Answers.{refIn}
+use Rattle.hours.specs.Inside.{refIn}
 use Rattle.hours.specs.Hours.{dangling}
 use mathlib.Core.Path.{ap, _∙_}
 use borrow.Author.Needs.{needs}

@@ -1,6 +1,6 @@
 use borrow.Author.Needs.{needs}
 use Rattle.rota.proofs.GatherRows.{withRole, numberAt, row-within, row-refers}
-use Rattle.rota.specs.Answers.{usersWith}
+use Rattle.rota.specs.Inside.{usersWith}
 use Rattle.rota.specs.RotaBytes.{usersOf}
 use Rattle.bitset.proofs.GatherLaws.{gather-none, gather-in, gather-out}
 use native.Mathlib.Nat.{le-antisymm}

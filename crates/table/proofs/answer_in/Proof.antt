@@ -6,7 +6,7 @@ use native.Mathlib.Nat.{le-antisymm}
 use borrow.Author.Needs.{needs}
 use Rattle.ground.proofs.SearchLaws.{any-none, any-more}
 use Rattle.ground.specs.Search.{anyBelow}
-use Rattle.table.specs.Answers.{rowGrants}
+use Rattle.table.specs.Inside.{rowGrants}
 use Rattle.table.proofs.AnswerLaws.{row-inside, phase-is, first-grants, none-grants}
 use Rattle.table.proofs.ReadLaws.{opened-header}
 use Rattle.table.proofs.HeaderLaws.{laid}

@@ -3,7 +3,7 @@ use mathlib.Core.Path.{refl, sym, _∙_}
 use native.Mathlib.Nat.{le-antisymm}
 use native.Mathlib.Omega.{arith}
 use borrow.Author.Needs.{needs}
-use Rattle.table.specs.Answers.{windowGiven}
+use Rattle.table.specs.Inside.{windowGiven}
 use Rattle.table.proofs.FineLaws.{row-alone}
 use Rattle.table.proofs.RowLaws.{RowsWalked, rows-none, row-read, row-bad, row-astray, row-next}
 use Rattle.table.proofs.HeaderLaws.{laid}

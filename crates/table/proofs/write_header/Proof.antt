@@ -2,7 +2,7 @@ use mathlib.Core.List.{_++_}
 use borrow.Author.Needs.{needs}
 use Rattle.endian.proofs.WrittenLaws.{sets-twice}
 use Rattle.endian.specs.Numbers.{bytes16, bytes32}
-use Rattle.table.specs.Answers.{limitsBytes}
+use Rattle.table.specs.Inside.{limitsBytes}
 use Rattle.table.specs.TableBytes.{headerBytes}
 use Rattle.table.proofs.write_header.Statement.{statement}
 use Rattle.table.proofs.write_header.Tie as tie

@@ -1,7 +1,7 @@
-use Rattle.grid.proofs.MaskLaws.{dates-are}
+use Rattle.hours.proofs.HoldsLaws.{dates-are}
 use borrow.Author.Needs.{needs}
-use Rattle.grid.proofs.dates_hold.Statement.{statement}
-use Rattle.grid.proofs.dates_hold.Tie as tie
+use Rattle.hours.proofs.dates_hold.Statement.{statement}
+use Rattle.hours.proofs.dates_hold.Tie as tie
 
 read32-requires : tie.Need-read32-requires
 read32-requires c κs = search needs

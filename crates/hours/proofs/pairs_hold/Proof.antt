@@ -4,9 +4,9 @@ use mathlib.Core.Path.{_≡_, _∙_}
 use mathlib.Core.Bool.{false}
 use Rattle.ground.specs.Search.{anyBelow}
 use Rattle.ground.proofs.SearchLaws.{any-none, any-more}
-use Rattle.grid.proofs.MaskLaws.{spanAt, span-is, pairs-yes, pairs-no}
-use Rattle.grid.proofs.pairs_hold.Statement.{statement}
-use Rattle.grid.proofs.pairs_hold.Tie as tie
+use Rattle.hours.proofs.HoldsLaws.{spanAt, span-is, pairs-yes, pairs-no}
+use Rattle.hours.proofs.pairs_hold.Statement.{statement}
+use Rattle.hours.proofs.pairs_hold.Tie as tie
 
 abbrev Inv-loop : tie.InvT-loop
 Inv-loop s at x n j₀ j = (j ≤ n) × (anyBelow j (spanAt s at x) ≡ false)
