@@ -4,14 +4,14 @@
 -- Assumes nothing.
 use Prim.Native.Nat.{ℕ, zero, suc, _^_, _≤_, _<_}
 use mathlib.Core.Path.{_≡_, refl, sym, _∙_, ap, ap₂}
-use mathlib.Core.Bool.{Bool, true, false, not, _&&_, _||_, and-false, and-assoc, and-or-distrib-left, or-false}
+use mathlib.Core.Bool.{Bool, true, false, not, _&&_, _||_, and-false, and-assoc, and-or-distrib-left}
 use mathlib.Core.Option.{none, some}
 use mathlib.Core.List.{List, [], _∷_}
 use native.Mathlib.Nat.{lt-of-lt-of-le}
 use native.Mathlib.Omega.{arith}
 use lib.Dec.{eqb, ltb}
 use lib.ListN.{getD}
-use lib.Pow.{pow-mono, pow-pos}
+use lib.Pow.{pow-mono}
 use borrow.Author.Tests.{leb-false, eqb-true, ne-eqb, eq-eqb, lt-ltb, ltb-false}
 use Rattle.ground.specs.Choice.{pick}
 use Rattle.ground.specs.Search.{any, anyBelow}
@@ -19,8 +19,8 @@ use Rattle.ground.specs.Sequence.{All}
 use Rattle.ground.proofs.SearchLaws.{any-same, any-stop, any-none-of}
 use Rattle.ground.proofs.ListLaws.{all-with, some-same}
 use Rattle.ground.proofs.SequenceLaws.{get-listOf}
-use Rattle.bitset.specs.Sets.{has, setOf, union}
-use Rattle.bitset.proofs.SetLaws.{has-none, has-union, has-setOf, setOf-lt, ext}
+use Rattle.bitset.specs.Sets.{has, setOf}
+use Rattle.bitset.proofs.SetLaws.{has-setOf, setOf-lt, ext}
 use Rattle.hours.specs.Hours.{dangling}
 use Rattle.hours.specs.declared.HoursRef.{HoursRef}
 use Rattle.hours.specs.declared.HoursRef.the-variants.{Always, Numbered}

@@ -14,7 +14,7 @@ use Rattle.bitset.specs.Sets.{has}
 use Rattle.bitset.proofs.SetLaws.{has-none}
 use Rattle.index.specs.Tree.{Within}
 use Rattle.derive.specs.declared.Sets.{Sets}
-use Rattle.derive.specs.Role.{unionOf, usedIn, setsMade, setsIn, entryOf, keptWith, Gathered}
+use Rattle.derive.specs.Role.{unionOf, setsMade, setsIn, entryOf, keptWith, Gathered}
 use Rattle.derive.proofs.UnionLaws.{union-within}
 
 -- ---- a field is kept by both sets

@@ -13,7 +13,7 @@ use borrow.Author.Tests.{eq-eqb, ne-eqb, eqb-true}
 use Rattle.ground.specs.Choice.{pick}
 use Rattle.table.specs.Table.{Entry}
 use Rattle.table.specs.Answers.{entryMade}
-use Rattle.derivation.specs.Distinct.{addNew, placeOf}
+use Rattle.derivation.specs.Distinct.{placeOf}
 use Rattle.derivation.specs.Rewriting.{same}
 use Rattle.derivation.proofs.TableDistinct.{place-most, add-found, add-end}
 use Rattle.index.specs.Entries.{entriesWith, entriesTo, after, Entered}

@@ -1,9 +1,9 @@
 -- The walk through the links: it goes from pair to pair, and has passed the pair that it seeks only where it has found it.
 -- Assumes nothing.
 use Prim.Native.Nat.{ℕ, zero, suc, _+_, _*_, _≤_, _<_}
-use mathlib.Core.Path.{_≡_, refl, sym, _∙_, ap, ap₂, subst}
+use mathlib.Core.Path.{_≡_, refl, sym, _∙_, ap, subst}
 use mathlib.Core.Bool.{Bool, true, false}
-use mathlib.Core.List.{List, _∷_}
+use mathlib.Core.List.{List}
 use native.Mathlib.Omega.{arith}
 use native.Mathlib.Numerals.{add-one}
 use lib.Dec.{eqb}
@@ -14,7 +14,7 @@ use borrow.Author.Tests.{eqb-true, eqb-false}
 use Rattle.ground.specs.Search.{one}
 use Rattle.bitset.specs.Sets.{count}
 use Rattle.index.specs.declared.Turn.{Turn}
-use Rattle.index.specs.Tree.{turnsOf, turnAt, Turned, bucketOf, childAt, Comes, Within, Absent, Reached, Indexed, Ends}
+use Rattle.index.specs.Tree.{turnsOf, turnAt, Turned, bucketOf, childAt, Comes, Within, Absent, Indexed, Ends}
 use Rattle.index.proofs.TurnLaws.{turns-length, turns-none, one-pair, bucket-small}
 
 one-small : (b : Bool) → one b < 2

@@ -1,3 +1,4 @@
+use native.Mathlib.Omega.{arith}
 use mathlib.Core.Path.{sym, _∙_, ap}
 use Rattle.bitset.specs.Sets.{intersection}
 use Rattle.derive.proofs.UnionLaws.{union-empty}
@@ -25,7 +26,7 @@ returns-2 : tie.Need-returns-2
 returns-2 c = let a = c .before .before .before .before .before .args in without-permissions (a .on) (a .users .now) (a .permissions .now) (a .mask) (union-empty (a .permissions .now) (a .mask) _ (c .before .before .both2 .ensures ∙ ap (intersection (a .mask)) (c .before .before .before .before .before .pre .2)) (c .before .if2 .taken)) _ (c .no-sets2 .ensures)
 
 contains-requires : tie.Need-contains-requires
-contains-requires c κs = c .before .before .before .before .pre .0
+contains-requires c κs = omega (arith, c .before .before .before .before .pre .0)
 
 union-in-requires : tie.Need-union-in-requires
 union-in-requires c κs = c .before .before .before .before .before .before .pre .1

@@ -1,4 +1,3 @@
-use mathlib.Core.Path.{_≡_, sym}
 use native.Mathlib.Omega.{arith}
 use Rattle.index.proofs.TurnLaws.{bucket-is, bucket-small}
 use borrow.Author.Needs.{needs}
