@@ -25,14 +25,16 @@ use Rattle.rota.specs.RotaBytes.{rotaOf}
 use Rattle.rota.specs.RotaRefusals.{countsOver, headerJudged, roleJudged, rowBad, rowJudged, rotaJudged}
 use Rattle.rota.specs.RotaWell.{RotaWell}
 use Rattle.rota.proofs.RotaTheorems.{accepted-well}
-use Rattle.rota.proofs.Worked.{small, small-accepted, WorkedMinutes, worked-minutes}
+use Rattle.rota.specs.Worked.{small, WorkedMinutes}
+use Rattle.rota.proofs.Worked.{small-accepted, worked-minutes}
 use Rattle.table.specs.Table.{Entry, Row}
 use Rattle.derivation.specs.Cuts.{insertCut, sortInto, gapsFrom, gaps}
 use Rattle.derivation.specs.Distinct.{addNew, addAll, placeOf}
 use Rattle.derivation.specs.Rewriting.{hoursCuts, pairCuts, pairsCuts, eraCuts, cellCuts, fieldsOf, fields, keptAs, Kept, kept, rewrite, sizeOf, rewriteJudged}
-use Rattle.derivation.specs.Masks.{firstIn, maskOf, slotOf, assignedIn, usersIn, permissionsIn, keptIn}
+use Rattle.minutes.specs.First.{firstIn}
+use Rattle.derivation.specs.Masks.{maskOf, slotOf, assignedIn, usersIn, permissionsIn, keptIn}
 use Rattle.derivation.proofs.RewritingTheorems.{kept-mask, worked-field}
-use Rattle.derivation.proofs.WorkedField.{example, field}
+use Rattle.derivation.specs.Worked.{example, field}
 use Rattle.derivation.proofs.RoleByRole.{entriesFrom, rowsFrom, entries-by-role, rows-by-role}
 use Rattle.derivation.proofs.RoleMarks.{derivedFrom, marksFrom, rowsMarked, Agree, agree-masks, role-entries, role-rows}
 use Rattle.service.specs.declared.Service.{Service}

@@ -12,7 +12,7 @@ use lib.Seq.{length-take-le, take-suc-set, getD-take, slice-empty, slice-cons}
 use borrow.Author.Tests.{eq-eqb, ne-eqb, eqb-true}
 use Rattle.ground.specs.Choice.{pick}
 use Rattle.table.specs.Table.{Entry}
-use Rattle.table.specs.Answers.{entryMade}
+use Rattle.table.specs.Inside.{entryMade}
 use Rattle.derivation.specs.Distinct.{placeOf}
 use Rattle.derivation.specs.Rewriting.{same}
 use Rattle.derivation.proofs.TableDistinct.{place-most, add-found, add-end}

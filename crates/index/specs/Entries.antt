@@ -6,7 +6,7 @@ use lib.Dec.{eqb}
 use lib.ListN.{take}
 use Rattle.ground.specs.Choice.{pick}
 use Rattle.table.specs.Table.{Entry}
-use Rattle.table.specs.Answers.{entryMade}
+use Rattle.table.specs.Inside.{entryMade}
 use Rattle.derivation.specs.Distinct.{addNew, placeOf}
 use Rattle.derivation.specs.Rewriting.{same}
 

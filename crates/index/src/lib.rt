@@ -8,7 +8,7 @@ ghost use Prim.Native.Nat.{ℕ, _+_, _*_, _<_, _≤_};
 ghost use lib.ListN.{length, set};
 ghost use Rattle.ground.specs.Search.{one};
 ghost use Rattle.bitset.specs.Sets.{has};
-ghost use Rattle.table.specs.Answers.{entryMade};
+ghost use Rattle.table.specs.Inside.{entryMade};
 ghost use Rattle.index.specs.Entries.{Entered, after};
 ghost use Rattle.index.specs.Tree.{Turned, bucketOf, Within, Indexed, Absent, Ends, Sought};
 

@@ -15,7 +15,7 @@ use Rattle.ground.specs.Outcome.{Outcome, refused, given}
 use Rattle.ground.proofs.OutcomeLaws.{outcome-refused, outcome-given, refused-by, given-by}
 use Rattle.policy.specs.Policy.{holdersAt}
 use Rattle.rota.specs.RotaBytes.{rotaOf}
-use Rattle.rota.specs.Answers.{layoutGiven, layoutOutcome, layoutOf, Located}
+use Rattle.rota.specs.Inside.{layoutGiven, layoutOutcome, layoutOf, Located}
 use Rattle.rota.specs.Answers.{countsOf as rotaCounts}
 use Rattle.rota.specs.declared.Layout.{Layout}
 use Rattle.rota.specs.declared.LayoutAnswer.{LayoutAnswer}
@@ -23,7 +23,8 @@ use Rattle.rota.specs.declared.LayoutAnswer.the-variants as layout
 use Rattle.rota.proofs.RotaFine.{rota-fine}
 use Rattle.rota.proofs.ReadLaws.{located, not-located}
 use Rattle.table.specs.TableBytes.{tableOf}
-use Rattle.table.specs.Answers.{tableGiven, readOutcome, countsOf, Opened}
+use Rattle.table.specs.Answers.{tableGiven, readOutcome, countsOf}
+use Rattle.table.specs.Inside.{Opened}
 use Rattle.table.specs.declared.Counts.{Counts}
 use Rattle.table.specs.declared.TableAnswer.{TableAnswer}
 use Rattle.table.specs.declared.TableAnswer.the-variants as table

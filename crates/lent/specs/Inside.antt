@@ -3,7 +3,7 @@ use Prim.Native.Nat.{ℕ}
 use mathlib.Core.Path.{_≡_}
 use mathlib.Core.List.{List}
 use Rattle.ground.specs.Outcome.{Outcome, refused, given, outcome}
-use Rattle.rota.specs.Answers.{layoutOf}
+use Rattle.rota.specs.Inside.{layoutOf}
 use Rattle.table.specs.Answers.{countsOf}
 use Rattle.lent.specs.Lent.{judgedAs}
 use Rattle.lent.specs.declared.Kind.{Kind}

@@ -10,7 +10,8 @@ use Rattle.ground.specs.Sequence.{joined}
 use Rattle.ground.proofs.BoolLaws.{pick-true}
 use Rattle.endian.specs.Numbers.{u16At}
 use Rattle.rota.specs.RotaBytes.{rotaOf}
-use Rattle.rota.proofs.Worked.{small, small-accepted}
+use Rattle.rota.specs.Worked.{small}
+use Rattle.rota.proofs.Worked.{small-accepted}
 use Rattle.table.specs.Table.{Entry, Row}
 use Rattle.derivation.specs.Rewriting.{rewrite, rewriteJudged}
 use Rattle.agreement.proofs.Worked.{small-entries, small-rows, small-size}

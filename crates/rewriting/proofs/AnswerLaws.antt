@@ -13,7 +13,7 @@ use Rattle.ground.proofs.JudgementLaws.{orElse-ne}
 use Rattle.ground.proofs.OutcomeLaws.{outcome-refused, outcome-given}
 use Rattle.rota.specs.RotaBytes.{rotaOf}
 use Rattle.rota.specs.RotaRefusals.{rotaJudged}
-use Rattle.rota.specs.Answers.{layoutOutcome}
+use Rattle.rota.specs.Inside.{layoutOutcome}
 use Rattle.rota.proofs.ReadLaws.{not-located}
 use Rattle.table.specs.TableBytes.{tableBytes}
 use Rattle.derivation.specs.Rewriting.{rewrite, sizeOf, rewriteJudged, Written, writtenOf, rewriteOutcome, areaAfter}

@@ -12,7 +12,7 @@ use Rattle.minutes.specs.Minutes.{Window}
 use Rattle.ground.specs.Sequence.{joined}
 use Rattle.table.specs.Table.{Row}
 use Rattle.table.specs.TableBytes.{rowBytes}
-use Rattle.table.specs.Answers.{rowMade}
+use Rattle.table.specs.Inside.{rowMade}
 use Rattle.derivation.specs.Cuts.{Gap, gapsFrom, gaps}
 use Rattle.derivation.specs.Rewriting.{fieldOf, fieldsOf}
 use Rattle.derivation.proofs.RoleMarks.{marked, rowsMarked}

@@ -19,7 +19,7 @@ use Rattle.derivation.specs.Masks.{slotOf}
 use Rattle.derive.specs.Role.{bySlot, roleOf}
 use Rattle.derive.specs.declared.Role.{Role}
 use Rattle.derive.proofs.RoleLaws.{slot-small}
-use Rattle.rota.specs.Answers.{Located}
+use Rattle.rota.specs.Inside.{Located}
 use Rattle.rewriting.specs.Parts.{RowsFit}
 
 rows-fit : (s : List ℕ) (top at n : ℕ) → top ≤ 64 → hoursOf s ≤ 32 → at + 3 * n ≤ length s → ((k : ℕ) → k < n → RowFine s top at k) → RowsFit s at n

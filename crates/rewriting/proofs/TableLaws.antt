@@ -20,7 +20,7 @@ use Rattle.rota.specs.declared.Layout.{Layout}
 use Rattle.rota.proofs.RotaWellLaws.{roles-count}
 use Rattle.table.specs.TableBytes.{headerBytes, entryBytes, rowBytes, tableBytes}
 use Rattle.derivation.specs.Rewriting.{rewrite, sizeOf, rewriteOutcome, areaAfter}
-use Rattle.rota.specs.Answers.{Located}
+use Rattle.rota.specs.Inside.{Located}
 use Rattle.rewriting.specs.Parts.{HeaderFits, started, lengthWith, CountedTo}
 use Rattle.rewriting.proofs.AnswerLaws.{too-long, written}
 use Rattle.derive.specs.declared.Count.{Count}

@@ -6,7 +6,7 @@ ghost use lib.Dec.{leb};
 ghost use lib.ListN.{length, take};
 ghost use lib.Seq.{sets};
 ghost use Rattle.ground.specs.Sequence.{listOf, joined};
-ghost use Rattle.rota.specs.Answers.{Located};
+ghost use Rattle.rota.specs.Inside.{Located};
 ghost use Rattle.rota.specs.RotaBytes.{rolesOf, rotaOf, rowAt};
 ghost use Rattle.table.specs.TableBytes.{entryBytes, rowBytes};
 ghost use Rattle.derivation.specs.Rewriting.{rewrite, sizeOf, rewriteOutcome, areaAfter};

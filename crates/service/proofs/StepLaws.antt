@@ -11,7 +11,7 @@ use Rattle.ground.specs.Judgement.{refuse, _orElse_}
 use Rattle.ground.specs.Outcome.{Outcome, refused, given}
 use Rattle.ground.proofs.JudgementLaws.{orElse-ne}
 use Rattle.bitset.specs.Sets.{has, setOf, intersection, difference, count}
-use Rattle.bitset.proofs.SetLaws.{ext, has-setOf, has-below, has-intersection, setOf-lt, fits-64}
+use Rattle.bitset.proofs.SetLaws.{ext, has-setOf, has-below, has-intersection, intersection-lt, fits-64}
 use Rattle.policy.specs.Policy.{Policy, holdsAny, holdersAt}
 use Rattle.service.proofs.CoreLaws.{settled-refused, settled-given}
 use Rattle.service.specs.Machine.{Call, advance, «open», close, ask, closed, state, staying, stateJudged, advanceJudged, openJudged, closeJudged, askJudged, callJudged, given-by, left-by, stepBy, serviceStep}
@@ -31,10 +31,6 @@ and-turn true true c = refl
 and-turn true false c = refl
 and-turn false true c = refl
 and-turn false false c = refl
-
-both-below : (x y : ℕ) → intersection x y < 2 ^ 64
-unfolding intersection
-both-below x y = setOf-lt 64 _
 
 module _ (π : Policy) (σ : Service) where
   step-refused : (n : ℕ) (c : Call) → (n ≡ 0 → ⊥) → record { outcome = refused n; after = σ } ≡ stepBy n π σ c
@@ -100,7 +96,7 @@ module _ {j users permissions : ℕ} {π : Policy} (w : Ready j users permission
   unfolding staying holdersAt
   stays-as holders m e =
       ap (intersection (σ .«open»)) e
-      ∙ ext 64 _ _ (both-below (σ .«open») (setOf (π .users) (holdsAny π m))) (fits-64 (π .users) _ small)
+      ∙ ext 64 _ _ (intersection-lt (σ .«open») (setOf (π .users) (holdsAny π m))) (fits-64 (π .users) _ small)
       (λ i l. has-intersection (σ .«open») _ i l ∙ ap (λ (b : Bool). has (σ .«open») i && b) (has-setOf (π .users) (holdsAny π m) i)
       ∙ and-turn (has (σ .«open») i) (ltb i (π .users)) (holdsAny π m i) ∙ sym (has-setOf (π .users) _ i))
 

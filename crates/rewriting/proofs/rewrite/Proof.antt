@@ -1,5 +1,5 @@
 use mathlib.Core.Path.{ap, sym, _∙_}
-use Rattle.rota.specs.Answers.{layoutGiven}
+use Rattle.rota.specs.Inside.{layoutGiven}
 use Rattle.rota.proofs.LocatedLaws.{located-by}
 use Rattle.rewriting.proofs.AnswerLaws.{not-a-rota}
 use borrow.Author.Needs.{needs}
