@@ -2,5 +2,5 @@
 mod archives;
 
 fn main() {
-    archives::link(&["interface", "probe"]);
+    archives::link(&["softlode", "probe"]);
 }

@@ -2,5 +2,5 @@
 mod archives;
 
 fn main() {
-    archives::link(&["interface"]);
+    archives::link(&["softlode"]);
 }

@@ -5,7 +5,7 @@
 use softlode::Refusal;
 
 const HEADER: &str = include_str!("../../../include/softlode.h");
-const INTERFACE: &str = include_str!("../../../crates/interface/src/lib.rt");
+const INTERFACE: &str = include_str!("../../../crates/softlode/src/lib.rt");
 const SERVICE: &str = include_str!("../../../crates/service/src/lib.rt");
 const WRAPPER: &str = concat!(
     include_str!("../src/ffi.rs"),
