@@ -1,6 +1,6 @@
 -- Demand 3: where the rewriting of a rota succeeds into an area, the claim holds of the rota's bytes and the bytes up to the length that was given.
 -- Assumes nothing.
-use Prim.Native.Nat.{ℕ}
+use Prim.Native.Nat.{ℕ, _≤_}
 use mathlib.Core.Path.{_≡_, sym, ap, ap₂, _∙_, subst}
 use mathlib.Core.List.{List, _++_}
 use borrow.Author.Tests.{eq-eqb}
@@ -21,6 +21,8 @@ use Rattle.table.specs.Table as table
 use Rattle.table.specs.TableBytes.{tableBytes, tableOf}
 use Rattle.table.specs.TableRefusals.{tableJudged}
 use Rattle.derivation.specs.Rewriting.{rewrite, sizeOf, rewriteJudged, Written, writtenOf, rewriteOutcome, areaAfter}
+use Rattle.derivation.specs.Meaning.{MeansAt}
+use Rattle.derivation.specs.Untimed.{Untimed, countOf, Rival}
 use Rattle.derivation.proofs.RewritingTheorems.{means, same-answer, fewest}
 use Rattle.derivation.proofs.TableRewritten.{rewritten-accepted, rewritten-read, rewritten-length}
 use Rattle.lent.specs.declared.Kind.the-variants as Kind
@@ -49,8 +51,11 @@ whole s a =
       on-table = λ cs.
           run-same (lentStep Kind.Table (tableBytes (rewrite (rotaOf s)))) (machineStep (rota.policyOf (rotaOf s)))
           (λ σ c. service-is _ _ σ c b ∙ ap (λ (τ : table.Table). machineStep (table.policyOf τ) σ c) e ∙ table-step (rotaOf s) w σ c) cs fresh;
-      meaning = λ r t hr ht. means w r t hr ht;
-      fewest = λ r hr os rival. fewest w r hr os rival;
+      meaning = λ r t hr ht. subst (λ (τ : table.Table). MeansAt (rotaOf s) τ r t) (sym e) (means w r t hr ht);
+      fewest = λ r hr os.
+          subst
+          (λ (τ : table.Table). Rival τ r os → countOf (λ (x : table.Entry). eqb (x .source) r) (τ .entries) ≤ countOf (λ (o : Untimed). eqb (o .source) r) os)
+          (sym e) (fewest w r hr os);
     }
 
 -- the claim

@@ -2,43 +2,40 @@
 -- Assumes nothing.
 use Prim.Native.Nat.{ℕ, _<_}
 use mathlib.Core.Path.{_≡_, refl, ap, _∙_}
-use mathlib.Core.Option.{none}
 use mathlib.Core.List.{List, [], _∷_, _++_, map, List·Memᴰ, List·Memᴰ·head, List·Memᴰ·tail}
 use native.Mathlib.Omega.{arith}
 use lib.ListN.{length}
 use Rattle.ground.specs.Judgement.{refuse, _orElse_, inTurn}
-use Rattle.ground.specs.Outcome.{refused, given, outcome}
+use Rattle.ground.specs.Outcome.{outcome}
 use Rattle.ground.specs.Search.{any, anyBelow, firstOf, lowestBelow, countBelow}
 use Rattle.ground.specs.Sequence.{listOf, All}
 use Rattle.endian.specs.Numbers.{u16At, u32At}
 use Rattle.bitset.specs.Sets.{has, setOf, insert, remove, difference, count}
 use Rattle.minutes.specs.Minutes.{E, Window, inPhase}
-use Rattle.calendar.specs.Calendar.{dateAt, minuteOf}
 use Rattle.calendar.specs.declared.Date.{Date}
 use Rattle.calendar.proofs.CalendarLaws.{leap-day, leap-day-date, last-minute-date}
 use Rattle.hours.specs.Hours.{holds, refHolds, refOf, dangling}
 use Rattle.hours.specs.HoursBytes.{recordAt, pairsBefore, hoursFrom}
 use Rattle.hours.specs.HoursRefusals.{earliest, pairJudged, hoursJudged, recordJudged}
 use Rattle.policy.specs.Policy.{holdsAny}
-use Rattle.rota.specs.Rota.{Rota, enabled, assigned, hasUser, hasPermission, through, answer, policyOf}
+use Rattle.rota.specs.Rota.{Rota, enabled, assigned, hasUser, hasPermission, through, answer}
 use Rattle.rota.specs.RotaBytes.{rotaOf}
 use Rattle.rota.specs.RotaRefusals.{countsOver, headerJudged, roleJudged, rowBad, rowJudged, rotaJudged}
 use Rattle.rota.specs.RotaWell.{RotaWell}
 use Rattle.rota.proofs.RotaTheorems.{accepted-well}
-use Rattle.rota.specs.Worked.{small, WorkedMinutes}
+use Rattle.rota.specs.Worked.{small}
 use Rattle.rota.proofs.Worked.{small-accepted, worked-minutes}
 use Rattle.table.specs.Table.{Entry, Row}
 use Rattle.derivation.specs.Cuts.{insertCut, sortInto, gapsFrom, gaps}
 use Rattle.derivation.specs.Distinct.{addNew, addAll, placeOf}
-use Rattle.derivation.specs.Rewriting.{hoursCuts, pairCuts, pairsCuts, eraCuts, cellCuts, fieldsOf, fields, keptAs, Kept, kept, rewrite, sizeOf, rewriteJudged}
+use Rattle.derivation.specs.Rewriting.{hoursCuts, pairCuts, pairsCuts, eraCuts, cellCuts, fieldsOf, fields, keptAs, rewrite, sizeOf, rewriteJudged}
 use Rattle.minutes.specs.First.{firstIn}
 use Rattle.derivation.specs.Masks.{maskOf, slotOf, assignedIn, usersIn, permissionsIn, keptIn}
 use Rattle.derivation.proofs.RewritingTheorems.{kept-mask, worked-field}
-use Rattle.derivation.specs.Worked.{example, field}
+use Rattle.agreement.specs.Worked.{Worked}
 use Rattle.derivation.proofs.RoleByRole.{entriesFrom, rowsFrom, entries-by-role, rows-by-role}
 use Rattle.derivation.proofs.RoleMarks.{derivedFrom, marksFrom, rowsMarked, Agree, agree-masks, role-entries, role-rows}
-use Rattle.service.specs.declared.Service.{Service}
-use Rattle.service.specs.Machine.{Call, advance, «open», closed, done, Step, state, fresh, staying, stateJudged, advanceJudged, openJudged, callJudged, given-by, left-by, settled, stepBy, machineStep}
+use Rattle.service.specs.Machine.{staying, stateJudged, advanceJudged, openJudged, callJudged, given-by, left-by, settled, stepBy, machineStep}
 
 -- opens every definition that an example computes through
 unfoldable opened : Unit {0}
@@ -88,25 +85,6 @@ small-size = omega (arith, ap length small-entries, ap length small-rows)
 pub small-needs : (rewriteJudged small 259 ≡ 0) × (rewriteJudged small 258 ≡ 20)
 unfolding rewriteJudged opened
 small-needs = (rw small-size refl, rw small-size refl)
-
--- ---- the statement
-
--- one call of the plain machine on S
-abbrev on-small : Service → Call → Step
-on-small = machineStep (policyOf ρ)
-
-pub record Worked : Type 0 where
-  pub minutes : WorkedMinutes
-  -- fresh on S: open 1 gives 43; open 0, advance 4 gives count 1
-  pub opens-1 : on-small fresh («open» 1) .outcome ≡ refused 43
-  pub opens-0 : on-small fresh («open» 0) ≡ record { outcome = given done; after = state 0 1 }
-  pub advances-4 : on-small (state 0 1) (advance 4) ≡ record { outcome = given (closed 1); after = state 4 0 }
-  -- C 10, hours (3, 5, pair (0, 10)) and (0, E, pair (6, 2)): era 3 to 5 keeps no field with cell 6 to 8
-  pub era-3-to-5 : (keptAs example 0 field ≡ none) × ((k : Kept) → List·Memᴰ k (kept example) → k .field ≡ field → ⊥)
-  -- 29 February 2004, 00:00, is minute 1,661,760, a Sunday; the last minute is a Sunday
-  pub leap-day-is : minuteOf 2004 2 29 0 0 ≡ given 1661760
-  pub leap-day-sunday : dateAt 1661760 .weekday ≡ 6
-  pub last-sunday : dateAt 210379679 .weekday ≡ 6
 
 pub worked : Worked
 unfolding opened

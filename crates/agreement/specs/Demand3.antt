@@ -35,6 +35,6 @@ pub record Demand3 (s bytes : List ℕ) : Type 0 where
   pub table-is : tableOf bytes ≡ rewrite (rotaOf s)
   pub on-rota : (cs : List Call) → run (lentStep Kind.Rota s) fresh cs ≡ machine (rotaOf s) cs
   pub on-table : (cs : List Call) → run (lentStep Kind.Table bytes) fresh cs ≡ machine (rotaOf s) cs
-  pub meaning : (r t : ℕ) → r < length (rotaOf s .roles) → t < E → MeansAt (rotaOf s) r t
-  pub fewest : (r : ℕ) → r < length (rotaOf s .roles) → (os : List Untimed) → Rival (rotaOf s) r os
-      → countOf (λ (e : Entry). eqb (e .source) r) (rewrite (rotaOf s) .entries) ≤ countOf (λ (o : Untimed). eqb (o .source) r) os
+  pub meaning : (r t : ℕ) → r < length (rotaOf s .roles) → t < E → MeansAt (rotaOf s) (tableOf bytes) r t
+  pub fewest : (r : ℕ) → r < length (rotaOf s .roles) → (os : List Untimed) → Rival (tableOf bytes) r os
+      → countOf (λ (e : Entry). eqb (e .source) r) (tableOf bytes .entries) ≤ countOf (λ (o : Untimed). eqb (o .source) r) os

@@ -13,20 +13,27 @@ use lib.Dec.{eqb}
 use lib.ListN.{length}
 use borrow.Author.Tests.{eqb-true}
 use Rattle.ground.specs.Search.{any}
+use Rattle.ground.proofs.SearchLaws.{list-any}
 use Rattle.bitset.specs.Sets.{setOf}
 use Rattle.bitset.proofs.SetLaws.{setOf-same}
 use Rattle.minutes.specs.Minutes.{E, Window}
 use Rattle.rota.specs.Rota.{Rota, enabled, hasUser, hasPermission}
 use Rattle.rota.specs.Rota as rota
 use Rattle.rota.specs.RotaWell.{RotaWell}
-use Rattle.table.specs.Table.{Entry}
+use Rattle.table.specs.Table.{Entry, Table}
+use Rattle.table.specs.Table as table
 use Rattle.derivation.specs.Rewriting.{usersAt, permissionsAt, derivedAt, active, Kept, kept, entriesOf, rewrite}
-use Rattle.derivation.specs.Untimed.{Untimed, onFor, grants, countOf, Rival}
+use Rattle.derivation.specs.Untimed.{Untimed, onFor, grants, countOf, untimedAt, untimedOf, Rival}
 use Rattle.derivation.proofs.KeptLaws.{KeptAt, kept-minute}
 use Rattle.derivation.proofs.KeptListLaws.{kept-out}
 use Rattle.derivation.proofs.DistinctLaws.{Distinct, added-out, added-distinct}
 use Rattle.derivation.proofs.MeaningLaws.{same-decides, Active, active-out, through-same}
 use Rattle.derivation.proofs.CountingLaws.{count-one, Match, pigeon}
+
+-- what a table grants for a role is what it answers through that role
+grants-own : (τ : Table) (r t u p : ℕ) → grants (untimedOf τ) r t u p ≡ table.through τ u p t r
+unfolding grants table.through
+grants-own τ r t u p = list-any (λ (o : Untimed). onFor r t o && o .user u && o .permission p) (length (τ .entries)) (untimedAt τ)
 
 -- where one derived role at most is enabled, it grants all that is granted
 sole : (os : List Untimed) (r t u p : ℕ) → countOf (onFor r t) os ≤ 1 → (o : Untimed) → List·Memᴰ o os → onFor r t o ≡ true
@@ -97,17 +104,17 @@ module _ (ρ : Rota) (w : RotaWell ρ) where
   unfolding rota.through
   on-through r t u p h = rw h
 
-  module _ (r : ℕ) (hr : r < length (ρ .roles)) (os : List Untimed) (rival : Rival ρ r os) where
+  module _ (r : ℕ) (hr : r < length (ρ .roles)) (os : List Untimed) (rival : Rival (rewrite ρ) r os) where
     -- the rival's one derived role at a minute at which r is active
     partner-at : (e : Entry) (t : ℕ) → t < E → active ρ r t ≡ true → derivedAt ρ r t ≡ e → Match (λ (o : Untimed). eqb (o .source) r) (Serves ρ r) os e
-    unfolding grants
+    unfolding grants rewrite
     partner-at e t ht on is = of-rival (some-out (λ (o : Untimed). onFor r t o && o .user (a .user .0) && o .permission (a .permission .0)) os granted)
       where
         a : Active ρ r t
         a = active-out ρ r t on
 
         pairs : (u p : ℕ) → u < ρ .users → p < ρ .permissions → grants os r t u p ≡ (hasUser ρ u r t && hasPermission ρ p r t)
-        pairs u p hu hp = rival .same-pairs t u p ht hu hp ∙ through-same ρ w u p t r hu hp ht hr ∙ on-through r t u p (a .on)
+        pairs u p hu hp = rival .same-pairs t u p ht hu hp ∙ grants-own (rewrite ρ) r t u p ∙ through-same ρ w u p t r hu hp ht hr ∙ on-through r t u p (a .on)
 
         granted : grants os r t (a .user .0) (a .permission .0) ≡ true
         granted = pairs _ _ (a .user .1) (a .permission .1) ∙ and-both _ _ (a .user .2) (a .permission .2)

@@ -84,7 +84,7 @@ module _ {ρ : Rota} (w : RotaWell ρ) where
   kept-mask = mask-kept ρ w
 
   -- the table has at each minute, of each role, the derived role that the role is then
-  pub means : (r t : ℕ) → r < length (ρ .roles) → t < E → MeansAt ρ r t
+  pub means : (r t : ℕ) → r < length (ρ .roles) → t < E → MeansAt ρ (rewrite ρ) r t
   means r t hr ht =
       record {
         at-most-one = λ i j a b. of-place ρ w i r t (a .on) (a .source) ∙ sym (of-place ρ w j r t (b .on) (b .source));
@@ -107,7 +107,7 @@ module _ {ρ : Rota} (w : RotaWell ρ) where
   same-answer = answer-same ρ w
 
   -- no list of untimed derived roles that grants the same and enables one of r at a time has fewer of r
-  pub fewest : (r : ℕ) → r < length (ρ .roles) → (os : List Untimed) → Rival ρ r os
+  pub fewest : (r : ℕ) → r < length (ρ .roles) → (os : List Untimed) → Rival (rewrite ρ) r os
       → countOf (λ (e : Entry). eqb (e .source) r) (rewrite ρ .entries) ≤ countOf (λ (o : Untimed). eqb (o .source) r) os
   fewest = no-fewer ρ w
 

@@ -1,4 +1,4 @@
--- Any other table of untimed users and permissions (document 01, "Rewriting", its second paragraph).
+-- Tables of untimed users and permissions, ours and any other (document 01, "Rewriting", its second paragraph).
 use Prim.Native.Nat.{ℕ, suc, _≤_, _<_}
 use mathlib.Core.Path.{_≡_}
 use mathlib.Core.Bool.{Bool, _&&_}
@@ -10,9 +10,7 @@ use Rattle.ground.specs.Search.{any}
 use Rattle.ground.specs.Sequence.{listOf}
 use Rattle.bitset.specs.Sets.{has}
 use Rattle.minutes.specs.Minutes.{E}
-use Rattle.rota.specs.Rota.{Rota}
-use Rattle.table.specs.Table.{Table, entryAt, enabled, through}
-use Rattle.derivation.specs.Rewriting.{rewrite}
+use Rattle.table.specs.Table.{Table, entryAt, enabled}
 
 -- a derived role whose two sets never change, with any choice of the minutes at which it is enabled
 pub record Untimed : Type 0 where
@@ -25,7 +23,7 @@ pub record Untimed : Type 0 where
 abbrev pub onFor : ℕ → ℕ → Untimed → Bool
 onFor r t o = eqb (o .source) r && o .on t
 
--- at t the list grants for role r the pair of u and p
+-- at t such a table grants for role r the pair of u and p
 unfoldable pub grants : List Untimed → ℕ → ℕ → ℕ → ℕ → Bool
 grants os r t u p = any (λ (o : Untimed). onFor r t o && o .user u && o .permission p) os
 
@@ -34,12 +32,6 @@ unfoldable pub countOf {ℓ} : {A : Type ℓ} → (A → Bool) → List A → �
 countOf f [] = 0
 countOf f (x ∷ xs) = pick (f x) (suc (countOf f xs)) (countOf f xs)
 
--- a list that grants for r the same pairs at each minute as the rewritten table (`through` says that a table grants a pair for a role), and
--- enables at most one derived role of r at a time
-pub record Rival (ρ : Rota) (r : ℕ) (os : List Untimed) : Type 0 where
-  pub same-pairs : (t u p : ℕ) → t < E → u < ρ .users → p < ρ .permissions → grants os r t u p ≡ through (rewrite ρ) u p t r
-  pub one-at-a-time : (t : ℕ) → t < E → countOf (onFor r t) os ≤ 1
-
 -- a table as such a list: its own derived roles, each on when one of its rows enables it
 abbrev pub untimedAt : Table → ℕ → Untimed
 untimedAt τ i =
@@ -47,3 +39,8 @@ untimedAt τ i =
 
 abbrev pub untimedOf : Table → List Untimed
 untimedOf τ = listOf (length (τ .entries)) (untimedAt τ)
+
+-- a list that grants for r the same pairs at each minute as the table does, and enables at most one derived role of r at a time
+pub record Rival (τ : Table) (r : ℕ) (os : List Untimed) : Type 0 where
+  pub same-pairs : (t u p : ℕ) → t < E → u < τ .users → p < τ .permissions → grants os r t u p ≡ grants (untimedOf τ) r t u p
+  pub one-at-a-time : (t : ℕ) → t < E → countOf (onFor r t) os ≤ 1

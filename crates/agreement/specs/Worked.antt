@@ -1,0 +1,31 @@
+-- What document 01 marks for proof under "Worked minutes", as one statement.
+use Prim.Native.Nat.{ℕ}
+use mathlib.Core.Path.{_≡_}
+use mathlib.Core.Option.{none}
+use mathlib.Core.List.{List·Memᴰ}
+use Rattle.ground.specs.Outcome.{refused, given}
+use Rattle.calendar.specs.Calendar.{dateAt, minuteOf}
+use Rattle.rota.specs.Rota.{policyOf}
+use Rattle.rota.specs.RotaBytes.{rotaOf}
+use Rattle.rota.specs.Worked.{small, WorkedMinutes}
+use Rattle.derivation.specs.Rewriting.{keptAs, Kept, kept}
+use Rattle.derivation.specs.Worked.{example, field}
+use Rattle.service.specs.declared.Service.{Service}
+use Rattle.service.specs.Machine.{Call, advance, «open», closed, done, Step, state, fresh, machineStep}
+
+-- one call of the plain machine on S
+abbrev pub on-small : Service → Call → Step
+on-small = machineStep (policyOf (rotaOf small))
+
+pub record Worked : Type 0 where
+  pub minutes : WorkedMinutes
+  -- fresh on S: open 1 gives 43; open 0, advance 4 gives count 1
+  pub opens-1 : on-small fresh («open» 1) .outcome ≡ refused 43
+  pub opens-0 : on-small fresh («open» 0) ≡ record { outcome = given done; after = state 0 1 }
+  pub advances-4 : on-small (state 0 1) (advance 4) ≡ record { outcome = given (closed 1); after = state 4 0 }
+  -- C 10, hours (3, 5, pair (0, 10)) and (0, E, pair (6, 2)): era 3 to 5 keeps no field with cell 6 to 8
+  pub era-3-to-5 : (keptAs example 0 field ≡ none) × ((k : Kept) → List·Memᴰ k (kept example) → k .field ≡ field → ⊥)
+  -- 29 February 2004, 00:00, is minute 1,661,760, a Sunday; the last minute is a Sunday
+  pub leap-day-is : minuteOf 2004 2 29 0 0 ≡ given 1661760
+  pub leap-day-sunday : dateAt 1661760 .weekday ≡ 6
+  pub last-sunday : dateAt 210379679 .weekday ≡ 6
