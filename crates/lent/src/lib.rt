@@ -79,7 +79,7 @@ pub fn answer_at(s: &[u8], source: Source, u: u32, p: u32, t: u32) -> Answer
 {
     match source {
         Source::Rota(l) => rota::answer_in(s, l, u, p, t),
-        Source::Table(n) => table::answer_in(s, n, u, p, t),
+        Source::Table(n) => table_answers::answer_in(s, n, u, p, t),
     }
 }
 
@@ -90,6 +90,6 @@ pub fn holders_at(s: &[u8], source: Source, t: u32) -> u64
 {
     match source {
         Source::Rota(l) => rota::holders_in(s, l, t),
-        Source::Table(n) => table::holders_in(s, n, t),
+        Source::Table(n) => table_answers::holders_in(s, n, t),
     }
 }

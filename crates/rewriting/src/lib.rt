@@ -127,7 +127,7 @@ fn write_entries(out: &mut [u8], at: usize, source: u8, us: &[u64], ps: &[u64], 
 {
     let mut i = 0;
     while i < d {
-        table::write_entry(out, at + 17 * i, source, us[i], ps[i]);
+        table_parts::write_entry(out, at + 17 * i, source, us[i], ps[i]);
         i += 1;
     }
 }
@@ -150,7 +150,7 @@ fn write_marked(
     if m == 0 {
         return at;
     }
-    table::write_row(
+    table_parts::write_row(
         out,
         at,
         base + (m as u32 - 1),
@@ -279,7 +279,7 @@ fn start_table(out: &mut [u8], header: table::Counts, size: usize) -> bool
     if out.len() < size {
         return false;
     }
-    table::write_header(out, header);
+    table_parts::write_header(out, header);
     true
 }
 

@@ -249,7 +249,7 @@ pub extern "C" fn softlode_rota_question(s: &[u8], u: u32, p: u32, t: u32) -> To
 pub extern "C" fn softlode_table_question(s: &[u8], u: u32, p: u32, t: u32) -> Told
     ensures { λ r. ⌜ r ≡ questionTold (question (tableJudged (now (s .entry))) (tablePolicy (tableOf (now (s .entry)))) u p t) ⌝ }
 {
-    tell_answer(table::question(s, u, p, t))
+    tell_answer(table_answers::question(s, u, p, t))
 }
 
 // The state that a call leaves, and what it tells.

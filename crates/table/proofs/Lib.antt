@@ -1,11 +1,7 @@
 pub mod HeaderLaws
 pub mod EntryLaws
 pub mod RowLaws
-pub mod SourceLaws
 pub mod ReadLaws
-pub mod GrantLaws
-pub mod AnswerLaws
-pub mod HoldersLaws
 pub mod FollowsLaws
 pub mod FineLaws
 pub mod RowsLaws

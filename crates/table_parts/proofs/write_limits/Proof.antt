@@ -2,9 +2,9 @@ use mathlib.Core.List.{_++_}
 use borrow.Author.Needs.{needs}
 use Rattle.endian.proofs.WrittenLaws.{sets-twice}
 use Rattle.endian.specs.Numbers.{bytes8, bytes16}
-use Rattle.table.specs.Inside.{limitsBytes}
-use Rattle.table.proofs.write_limits.Statement.{statement}
-use Rattle.table.proofs.write_limits.Tie as tie
+use Rattle.table_parts.specs.Limits.{limitsBytes}
+use Rattle.table_parts.proofs.write_limits.Statement.{statement}
+use Rattle.table_parts.proofs.write_limits.Tie as tie
 
 write16-requires : tie.Need-write16-requires
 write16-requires c κs = search needs

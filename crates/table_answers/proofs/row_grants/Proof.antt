@@ -1,7 +1,7 @@
 use borrow.Author.Needs.{needs}
-use Rattle.table.proofs.GrantLaws.{grants-out, grants-no, grants-by}
-use Rattle.table.proofs.row_grants.Statement.{statement}
-use Rattle.table.proofs.row_grants.Tie as tie
+use Rattle.table_answers.proofs.GrantLaws.{grants-out, grants-no, grants-by}
+use Rattle.table_answers.proofs.row_grants.Statement.{statement}
+use Rattle.table_answers.proofs.row_grants.Tie as tie
 
 row-covers-requires : tie.Need-row-covers-requires
 row-covers-requires c κs = search needs

@@ -21,14 +21,15 @@ use Rattle.ground.proofs.SequenceLaws.{listOf-length, get-listOf}
 use Rattle.endian.specs.Numbers.{u8At, u32At}
 use Rattle.bitset.specs.Sets.{has}
 use Rattle.minutes.specs.Minutes.{covers}
 use Rattle.table.specs.Table.{Entry, Row, noEntry, entryAt, enabled, through, answer}
 use Rattle.table.specs.TableBytes.{cycleOf, derivedOf, rowsOf, entryOf, rowOf, tableOf}
 use Rattle.table.specs.TableRefusals.{sourceOf}
-use Rattle.table.specs.Inside.{Opened, RowInside, rowGrants}
+use Rattle.table.specs.Inside.{Opened}
+use Rattle.table_answers.specs.Grants.{RowInside, rowGrants}
 use Rattle.table.specs.declared.Counts.{Counts}
 use Rattle.table.proofs.HeaderLaws.{counts-are}
 use Rattle.table.proofs.FineLaws.{TableFine, table-fine}
-use Rattle.table.proofs.SourceLaws.{sources-up}
+use Rattle.table_answers.proofs.SourceLaws.{sources-up}
 
 -- row i begins here
 abbrev pub rowPlace : List ℕ → ℕ → ℕ

@@ -2,9 +2,9 @@ use mathlib.Core.List.{_++_}
 use borrow.Author.Needs.{needs}
 use Rattle.endian.proofs.WrittenLaws.{sets-twice}
 use Rattle.endian.specs.Numbers.{bytes16, bytes32}
 use Rattle.table.specs.TableBytes.{rowBytes}
-use Rattle.table.proofs.write_row.Statement.{statement}
-use Rattle.table.proofs.write_row.Tie as tie
+use Rattle.table_parts.proofs.write_row.Statement.{statement}
+use Rattle.table_parts.proofs.write_row.Tie as tie
 
 write32-requires : tie.Need-write32-requires
 write32-requires c κs = search needs

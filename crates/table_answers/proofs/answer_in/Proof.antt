@@ -6,12 +6,12 @@ use native.Mathlib.Nat.{le-antisymm}
 use borrow.Author.Needs.{needs}
 use Rattle.ground.proofs.SearchLaws.{any-none, any-more}
 use Rattle.ground.specs.Search.{anyBelow}
-use Rattle.table.specs.Inside.{rowGrants}
-use Rattle.table.proofs.AnswerLaws.{row-inside, phase-is, first-grants, none-grants}
+use Rattle.table_answers.specs.Grants.{rowGrants}
+use Rattle.table_answers.proofs.AnswerLaws.{row-inside, phase-is, first-grants, none-grants}
 use Rattle.table.proofs.ReadLaws.{opened-header}
 use Rattle.table.proofs.HeaderLaws.{laid}
-use Rattle.table.proofs.answer_in.Statement.{statement}
-use Rattle.table.proofs.answer_in.Tie as tie
+use Rattle.table_answers.proofs.answer_in.Statement.{statement}
+use Rattle.table_answers.proofs.answer_in.Tie as tie
 
 abbrev Inv-loop : tie.InvT-loop
 Inv-loop s u p t first rows x k₀ k = (k ≤ rows) × (anyBelow k (λ j. rowGrants s u p t (first + 16 * j)) ≡ false)

@@ -19,14 +19,15 @@ use Rattle.bitset.proofs.SetLaws.{has-none, has-past, has-below, has-setOf, set
 use Rattle.bitset.proofs.GatherLaws.{gather-start, gather-union}
 use Rattle.policy.specs.Policy.{holdsAny, holdersAt}
 use Rattle.policy.proofs.PolicyLaws.{yes-is}
 use Rattle.table.specs.Table.{answer, policyOf}
 use Rattle.table.specs.TableBytes.{usersOf, rowsOf, rowOf, tableOf}
 use Rattle.table.specs.TableRefusals.{sourceOf}
-use Rattle.table.specs.Inside.{Opened, rowUsers}
+use Rattle.table.specs.Inside.{Opened}
+use Rattle.table_answers.specs.Grants.{rowUsers}
 use Rattle.table.specs.declared.Counts.{Counts}
 use Rattle.table.proofs.HeaderLaws.{counts-are}
 use Rattle.table.proofs.FineLaws.{TableFine, table-fine}
-use Rattle.table.proofs.AnswerLaws.{rowPlace, covering, owned, grant-parts, grant-of, grant-through, through-grant}
+use Rattle.table_answers.proofs.AnswerLaws.{rowPlace, covering, owned, grant-parts, grant-of, grant-through, through-grant}
 
 -- user u is among the users of row i, which covers t
 abbrev pub rowHas : List ℕ → ℕ → ℕ → ℕ → Bool

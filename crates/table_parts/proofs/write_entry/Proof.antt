@@ -2,9 +2,9 @@ use mathlib.Core.List.{_++_}
 use borrow.Author.Needs.{needs}
 use Rattle.endian.proofs.WrittenLaws.{sets-twice}
 use Rattle.endian.specs.Numbers.{bytes8, bytes16, bytes32, bytes64}
 use Rattle.table.specs.TableBytes.{entryBytes}
-use Rattle.table.proofs.write_entry.Statement.{statement}
-use Rattle.table.proofs.write_entry.Tie as tie
+use Rattle.table_parts.proofs.write_entry.Statement.{statement}
+use Rattle.table_parts.proofs.write_entry.Tie as tie
 
 write8-requires : tie.Need-write8-requires
 write8-requires c κs = search needs

@@ -3,12 +3,12 @@ use mathlib.Core.Path.{_≡_}
 use native.Mathlib.Omega.{arith}
 use native.Mathlib.Nat.{le-antisymm}
 use borrow.Author.Needs.{needs}
-use Rattle.table.proofs.HoldersLaws.{gathered, gather-none, gather-more, gather-all}
-use Rattle.table.proofs.AnswerLaws.{row-inside, phase-is}
+use Rattle.table_answers.proofs.HoldersLaws.{gathered, gather-none, gather-more, gather-all}
+use Rattle.table_answers.proofs.AnswerLaws.{row-inside, phase-is}
 use Rattle.table.proofs.ReadLaws.{opened-header}
 use Rattle.table.proofs.HeaderLaws.{laid}
-use Rattle.table.proofs.holders_in.Statement.{statement}
-use Rattle.table.proofs.holders_in.Tie as tie
+use Rattle.table_answers.proofs.holders_in.Statement.{statement}
+use Rattle.table_answers.proofs.holders_in.Tie as tie
 
 abbrev Inv-loop : tie.InvT-loop
 Inv-loop s t first rows x set₀ i₀ set i = (i ≤ rows) × (set ≡ gathered s t first i)

@@ -2,10 +2,10 @@ use mathlib.Core.List.{_++_}
 use borrow.Author.Needs.{needs}
 use Rattle.endian.proofs.WrittenLaws.{sets-twice}
 use Rattle.endian.specs.Numbers.{bytes16, bytes32}
-use Rattle.table.specs.Inside.{limitsBytes}
+use Rattle.table_parts.specs.Limits.{limitsBytes}
 use Rattle.table.specs.TableBytes.{headerBytes}
-use Rattle.table.proofs.write_header.Statement.{statement}
-use Rattle.table.proofs.write_header.Tie as tie
+use Rattle.table_parts.proofs.write_header.Statement.{statement}
+use Rattle.table_parts.proofs.write_header.Tie as tie
 
 write-limits-requires : tie.Need-write-limits-requires
 write-limits-requires c κs = search needs

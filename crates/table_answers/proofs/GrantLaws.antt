@@ -7,8 +7,8 @@ use mathlib.Core.Bool.{Bool, true, false, _&&_}
 use Rattle.endian.specs.Numbers.{u32At, u64At}
 use Rattle.bitset.specs.Sets.{has}
 use Rattle.minutes.specs.Minutes.{Window, within, inPhase, covers}
 use Rattle.table.specs.TableBytes.{cycleOf, rowAtByte, entryOf}
-use Rattle.table.specs.Inside.{rowGrants, rowUsers}
+use Rattle.table_answers.specs.Grants.{rowGrants, rowUsers}
 
 -- the row at a position has window w, and d is whether minute t, of phase x, lies between its dates
 module _ (s : List ℕ) (at t x : ℕ) (w : Window) (d : Bool) (ew : w ≡ rowAtByte s at .window) (ex : x ≡ t % cycleOf s)

@@ -1,7 +1,7 @@
 use borrow.Author.Needs.{needs}
-use Rattle.table.proofs.GrantLaws.{users-out, users-in}
-use Rattle.table.proofs.row_users.Statement.{statement}
-use Rattle.table.proofs.row_users.Tie as tie
+use Rattle.table_answers.proofs.GrantLaws.{users-out, users-in}
+use Rattle.table_answers.proofs.row_users.Statement.{statement}
+use Rattle.table_answers.proofs.row_users.Tie as tie
 
 row-covers-requires : tie.Need-row-covers-requires
 row-covers-requires c κs = search needs

@@ -1,12 +1,12 @@
 use mathlib.Core.Path.{sym, _∙_, ap}
 use borrow.Author.Needs.{needs}
 use Rattle.policy.proofs.QuestionOutcome.{bytes-refused, numbers-refused, question-given, numbers-below}
 use Rattle.table.specs.Table.{policyOf}
 use Rattle.table.specs.TableBytes.{tableOf}
 use Rattle.table.specs.Answers.{tableGiven}
 use Rattle.table.proofs.ReadLaws.{closed, opened, arguments-as}
-use Rattle.table.proofs.question.Statement.{statement}
-use Rattle.table.proofs.question.Tie as tie
+use Rattle.table_answers.proofs.question.Statement.{statement}
+use Rattle.table_answers.proofs.question.Tie as tie
 
 read-requires : tie.Need-read-requires
 read-requires c κs = search needs

@@ -1,7 +1,7 @@
 use borrow.Author.Needs.{needs}
-use Rattle.table.proofs.GrantLaws.{covers-in, covers-out}
-use Rattle.table.proofs.row_covers.Statement.{statement}
-use Rattle.table.proofs.row_covers.Tie as tie
+use Rattle.table_answers.proofs.GrantLaws.{covers-in, covers-out}
+use Rattle.table_answers.proofs.row_covers.Statement.{statement}
+use Rattle.table_answers.proofs.row_covers.Tie as tie
 
 read-window-requires : tie.Need-read-window-requires
 read-window-requires c κs = search needs

@@ -1,0 +1,4 @@
+pub mod SourceLaws
+pub mod GrantLaws
+pub mod AnswerLaws
+pub mod HoldersLaws

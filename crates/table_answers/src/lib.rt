@@ -1,0 +1,120 @@
+// What an accepted table answers: one question to it, and who holds a permission.
+ghost use mathlib.Core.Path.{_≡_};
+ghost use Prim.Native.Nat.{_+_, _*_, _%_, _≤_, _<_};
+ghost use lib.ListN.{length};
+ghost use Rattle.ground.specs.Outcome.{given};
+ghost use Rattle.endian.specs.Numbers.{u32At};
+ghost use Rattle.minutes.specs.Minutes.{covers};
+ghost use Rattle.policy.specs.Policy.{question, answerGiven, holdersAt};
+ghost use Rattle.table.specs.Table.{answer, policyOf};
+ghost use Rattle.table.specs.TableBytes.{cycleOf, rowAtByte, tableOf};
+ghost use Rattle.table.specs.TableRefusals.{tableJudged};
+ghost use Rattle.table.specs.Inside.{Opened};
+ghost use Rattle.table_answers.specs.Grants.{RowInside, rowGrants, rowUsers};
+use policy::Answer;
+use table::Counts;
+use table::TableAnswer;
+
+// Whether the row at `at` covers minute t, whose phase is x.
+fn row_covers(s: &[u8], at: usize, t: u32, x: u32) -> bool
+    requires { ⌜ (at + 16 ≤ length (now s)) × (x ≡ t % cycleOf (now s)) ⌝ }
+    ensures { λ r. ⌜ r ≡ covers (cycleOf (now (s .entry))) (rowAtByte (now (s .entry)) at .window) t ⌝ }
+{
+    let w = table::read_window(s, at);
+    if minutes::during(w.begin, w.end, t) {
+        minutes::in_span(w.offset as u32, w.length as u32, x)
+    } else {
+        false
+    }
+}
+
+// Where the entry of the row at `at` begins.
+fn entry_place(s: &[u8], at: usize) -> usize
+    requires { ⌜ at + 16 ≤ length (now s) ⌝ }
+    ensures { λ r. ⌜ r ≡ 16 + 17 * u32At (now (s .entry)) at ⌝ }
+{
+    16 + 17 * (endian::read32(s, at) as usize)
+}
+
+// Whether the row at `at` covers minute t, whose phase is x, and its entry has both bits set.
+fn row_grants(s: &[u8], at: usize, u: u32, p: u32, t: u32, x: u32) -> bool
+    requires { ⌜ RowInside (now s) at × (x ≡ t % cycleOf (now s)) × (u < 64) × (p < 64) ⌝ }
+    ensures { λ r. ⌜ r ≡ rowGrants (now (s .entry)) u p t at ⌝ }
+{
+    if row_covers(s, at, t, x) {
+        let e = entry_place(s, at);
+        if bitset::contains(endian::read64(s, e + 1), u) {
+            bitset::contains(endian::read64(s, e + 9), p)
+        } else {
+            false
+        }
+    } else {
+        false
+    }
+}
+
+// The answer of an accepted table: rows go by source role, so the first row that grants has the lowest.
+pub fn answer_in(s: &[u8], n: Counts, u: u32, p: u32, t: u32) -> Answer
+    requires { ⌜ Opened (now s) n × (u < n .users) × (p < n .permissions) ⌝ }
+    ensures { λ r. ⌜ answerGiven r ≡ given (answer (tableOf (now (s .entry))) u p t) ⌝ }
+{
+    let first = 16 + 17 * (n.derived as usize);
+    let rows = n.rows as usize;
+    let x = minutes::phase(n.cycle, t);
+    let mut k = 0;
+    while k < rows {
+        let at = first + 16 * k;
+        if row_grants(s, at, u, p, t, x) {
+            let e = entry_place(s, at);
+            return Answer::Yes(s[e]);
+        }
+        k += 1;
+    }
+    Answer::No
+}
+
+// One question: the table's refusal, 33, 34, 35, or the answer.
+pub fn question(s: &[u8], u: u32, p: u32, t: u32) -> Answer
+    ensures { λ r. ⌜ answerGiven r ≡ question (tableJudged (now (s .entry))) (policyOf (tableOf (now (s .entry)))) u p t ⌝ }
+{
+    match table::read(s) {
+        TableAnswer::Refused(code) => Answer::Refused(code),
+        TableAnswer::Accepted(n) => {
+            let bad = policy::judge_arguments(n.users, n.permissions, u, p, t);
+            if bad != 0 {
+                return Answer::Refused(bad);
+            }
+            answer_in(s, n, u, p, t)
+        }
+    }
+}
+
+// The users of the entry of the row at `at` where the row covers minute t, whose phase is x, else none.
+fn row_users(s: &[u8], at: usize, t: u32, x: u32) -> u64
+    requires { ⌜ RowInside (now s) at × (x ≡ t % cycleOf (now s)) ⌝ }
+    ensures { λ r. ⌜ r ≡ rowUsers (now (s .entry)) t at ⌝ }
+{
+    if row_covers(s, at, t, x) {
+        let e = entry_place(s, at);
+        endian::read64(s, e + 1)
+    } else {
+        0
+    }
+}
+
+// The users of every row of an accepted table that covers minute t.
+pub fn holders_in(s: &[u8], n: Counts, t: u32) -> u64
+    requires { ⌜ Opened (now s) n ⌝ }
+    ensures { λ r. ⌜ r ≡ holdersAt (policyOf (tableOf (now (s .entry)))) t ⌝ }
+{
+    let first = 16 + 17 * (n.derived as usize);
+    let rows = n.rows as usize;
+    let x = minutes::phase(n.cycle, t);
+    let mut set = 0;
+    let mut i = 0;
+    while i < rows {
+        set = bitset::either(set, row_users(s, first + 16 * i, t, x));
+        i += 1;
+    }
+    set
+}
