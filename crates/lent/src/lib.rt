@@ -78,7 +78,7 @@ pub fn answer_at(s: &[u8], source: Source, u: u32, p: u32, t: u32) -> Answer
     ensures { λ r. ⌜ answerGiven r ≡ given (policyAs (kindOf source) (now (s .entry)) .answer u p t) ⌝ }
 {
     match source {
-        Source::Rota(l) => rota::answer_in(s, l, u, p, t),
+        Source::Rota(l) => rota_answers::answer_in(s, l, u, p, t),
         Source::Table(n) => table_answers::answer_in(s, n, u, p, t),
     }
 }
@@ -89,7 +89,7 @@ pub fn holders_at(s: &[u8], source: Source, t: u32) -> u64
     ensures { λ r. ⌜ r ≡ holdersAt (policyAs (kindOf source) (now (s .entry))) t ⌝ }
 {
     match source {
-        Source::Rota(l) => rota::holders_in(s, l, t),
+        Source::Rota(l) => rota_answers::holders_in(s, l, t),
         Source::Table(n) => table_answers::holders_in(s, n, t),
     }
 }

@@ -7,7 +7,5 @@ pub mod RotaWellLaws
 pub mod RotaBytesLaws
 pub mod RotaTheorems
 pub mod AlikeLaws
-pub mod GatherRows
-pub mod QuestionLaws
 pub mod LocatedLaws
 pub mod Worked

@@ -242,7 +242,7 @@ fn tell_answer(a: Answer) -> Told
 pub extern "C" fn softlode_rota_question(s: &[u8], u: u32, p: u32, t: u32) -> Told
     ensures { λ r. ⌜ r ≡ questionTold (question (rotaJudged (now (s .entry))) (rotaPolicy (rotaOf (now (s .entry)))) u p t) ⌝ }
 {
-    tell_answer(rota::question(s, u, p, t))
+    tell_answer(rota_answers::question(s, u, p, t))
 }
 
 #[no_mangle]

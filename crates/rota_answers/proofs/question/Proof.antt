@@ -1,13 +1,14 @@
-use Rattle.rota.proofs.LocatedLaws.{located-by, arguments-as}
+use Rattle.rota.proofs.LocatedLaws.{located-by}
+use Rattle.rota_answers.proofs.AskedLaws.{arguments-as}
 use Rattle.rota.proofs.ReadLaws.{not-located}
 use Rattle.rota.specs.Inside.{layoutGiven}
 use Rattle.rota.specs.RotaBytes.{rotaOf}
 use Rattle.rota.specs.Rota.{policyOf}
 use Rattle.policy.proofs.QuestionOutcome.{bytes-refused, numbers-refused, question-given, minute-early}
 use mathlib.Core.Path.{sym, ap, _∙_}
 use borrow.Author.Needs.{needs}
-use Rattle.rota.proofs.question.Statement.{statement}
-use Rattle.rota.proofs.question.Tie as tie
+use Rattle.rota_answers.proofs.question.Statement.{statement}
+use Rattle.rota_answers.proofs.question.Tie as tie
 
 -- src/lib.rt:409:11
 locate-requires : tie.Need-locate-requires

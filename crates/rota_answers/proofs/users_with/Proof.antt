@@ -1,15 +1,15 @@
 use borrow.Author.Needs.{needs}
-use Rattle.rota.proofs.GatherRows.{withRole, numberAt, row-within, row-refers}
-use Rattle.rota.specs.Inside.{usersWith}
+use Rattle.rota_answers.proofs.GatherRows.{withRole, numberAt, row-within, row-refers}
+use Rattle.rota_answers.specs.Gathered.{usersWith}
 use Rattle.rota.specs.RotaBytes.{usersOf}
 use Rattle.bitset.proofs.GatherLaws.{gather-none, gather-in, gather-out}
 use native.Mathlib.Nat.{le-antisymm}
 use native.Mathlib.Omega.{arith}
 use mathlib.Core.Logic.{⊎-elim}
 use mathlib.Core.Path.{_≡_, refl, _∙_}
 use Prim.Native.Nat.{_≤_, _-_}
-use Rattle.rota.proofs.users_with.Statement.{statement}
-use Rattle.rota.proofs.users_with.Tie as tie
+use Rattle.rota_answers.proofs.users_with.Statement.{statement}
+use Rattle.rota_answers.proofs.users_with.Tie as tie
 
 abbrev Inv-loop : tie.InvT-loop
 Inv-loop s h set roles at n users₀ k₀ users k = (k ≤ n) × (users ≡ usersWith s set roles at k)

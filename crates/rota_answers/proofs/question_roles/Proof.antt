@@ -1,7 +1,8 @@
-use Rattle.rota.proofs.LocatedLaws.{counted, fine, few-hours, roles-fine, users-fine, permissions-fine, question-as}
+use Rattle.rota.proofs.LocatedLaws.{counted, fine}
+use Rattle.rota_answers.proofs.AskedLaws.{few-hours, roles-fine, users-fine, permissions-fine, question-as}
 use borrow.Author.Needs.{needs}
-use Rattle.rota.proofs.question_roles.Statement.{statement}
-use Rattle.rota.proofs.question_roles.Tie as tie
+use Rattle.rota_answers.proofs.question_roles.Statement.{statement}
+use Rattle.rota_answers.proofs.question_roles.Tie as tie
 
 -- src/lib.rt:346:13
 cast-h : tie.Need-cast-h

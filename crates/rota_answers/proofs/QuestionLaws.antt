@@ -24,11 +24,11 @@ use Rattle.hours.specs.declared.HoursRef.the-variants.{Numbered}
 use Rattle.hours.proofs.RefLaws.{ref-in}
 use Rattle.policy.specs.Policy.{isYes, holdsAny, holdersAt}
 use Rattle.policy.proofs.PolicyLaws.{yes-is}
 use Rattle.rota.specs.Rota.{enabled, assigned, hasUser, hasPermission, through, answer, policyOf}
 use Rattle.rota.specs.RotaBytes.{headerLength, cycleOf, hoursOf, usersOf, permissionsOf, rolesOf, userRowsOf, permissionRowsOf, userRowsAt, permissionRowsAt, roleRef, rowAt, rotaOf}
 use Rattle.rota.specs.RotaRefusals.{rotaJudged}
-use Rattle.rota.specs.Inside.{RowsFine, rowIn, rolesOfNumber, rolesAssigned, rolesEnabled, usersWith}
+use Rattle.rota_answers.specs.Gathered.{RowsFine, rowIn, rolesOfNumber, rolesAssigned, rolesEnabled, usersWith}
 use Rattle.rota.proofs.RotaFine.{RotaFine, rota-fine}
 
 -- the rows of an accepted rota keep their ranges
 module _ (s : List ℕ) (acc : rotaJudged s ≡ 0) where

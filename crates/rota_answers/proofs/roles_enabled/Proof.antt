@@ -1,7 +1,7 @@
 use borrow.Author.Needs.{needs}
-use Rattle.rota.proofs.GatherRows.{role-refers, role-tested}
-use Rattle.rota.specs.Inside.{rolesEnabled}
+use Rattle.rota_answers.proofs.GatherRows.{role-refers, role-tested}
+use Rattle.rota_answers.specs.Gathered.{rolesEnabled}
 use Rattle.rota.specs.RotaBytes.{roleRef}
 use Rattle.hours.specs.Inside.{refIn}
 use Rattle.bitset.proofs.SetLaws.{setOf-none, turn-in, turn-out}
 use native.Mathlib.Nat.{le-antisymm}
@@ -9,8 +9,8 @@ use native.Mathlib.Omega.{arith}
 use mathlib.Core.Logic.{⊎-elim}
 use mathlib.Core.Path.{_≡_, _∙_}
 use Prim.Native.Nat.{_≤_, _-_}
-use Rattle.rota.proofs.roles_enabled.Statement.{statement}
-use Rattle.rota.proofs.roles_enabled.Tie as tie
+use Rattle.rota_answers.proofs.roles_enabled.Statement.{statement}
+use Rattle.rota_answers.proofs.roles_enabled.Tie as tie
 
 abbrev Inv-loop : tie.InvT-loop
 Inv-loop s h set at n roles₀ k₀ roles k = (k ≤ n) × (roles ≡ rolesEnabled s set k)

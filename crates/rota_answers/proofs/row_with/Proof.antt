@@ -1,8 +1,8 @@
 use mathlib.Core.Bool.{false}
-use Rattle.rota.proofs.GatherRows.{with-yes, with-no}
+use Rattle.rota_answers.proofs.GatherRows.{with-yes, with-no}
 use borrow.Author.Needs.{needs}
-use Rattle.rota.proofs.row_with.Statement.{statement}
-use Rattle.rota.proofs.row_with.Tie as tie
+use Rattle.rota_answers.proofs.row_with.Statement.{statement}
+use Rattle.rota_answers.proofs.row_with.Tie as tie
 
 -- src/lib.rt:264:49
 add-read8 : tie.Need-add-read8

@@ -2,8 +2,8 @@ use Rattle.hours.specs.Inside.{refIn}
 use Rattle.hours.specs.Hours.{dangling}
 use mathlib.Core.Path.{ap, _∙_}
 use borrow.Author.Needs.{needs}
-use Rattle.rota.proofs.row_in.Statement.{statement}
-use Rattle.rota.proofs.row_in.Tie as tie
+use Rattle.rota_answers.proofs.row_in.Statement.{statement}
+use Rattle.rota_answers.proofs.row_in.Tie as tie
 
 -- src/lib.rt:242:31
 add-decode : tie.Need-add-decode

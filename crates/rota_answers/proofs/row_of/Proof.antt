@@ -1,8 +1,8 @@
 use mathlib.Core.Path.{sym, _∙_}
 use borrow.Author.Tests.{eq-eqb, ne-eqb}
 use borrow.Author.Needs.{needs}
-use Rattle.rota.proofs.row_of.Statement.{statement}
-use Rattle.rota.proofs.row_of.Tie as tie
+use Rattle.rota_answers.proofs.row_of.Statement.{statement}
+use Rattle.rota_answers.proofs.row_of.Tie as tie
 
 -- src/lib.rt:252:8
 read8-requires : tie.Need-read8-requires

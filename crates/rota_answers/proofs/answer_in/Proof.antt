@@ -1,8 +1,8 @@
-use Rattle.rota.proofs.LocatedLaws.{records-fine, few-hours, some-cycle, answer-no, answer-yes}
+use Rattle.rota_answers.proofs.AskedLaws.{records-fine, few-hours, some-cycle, answer-no, answer-yes}
 use native.Mathlib.Omega.{arith}
 use borrow.Author.Needs.{needs}
-use Rattle.rota.proofs.answer_in.Statement.{statement}
-use Rattle.rota.proofs.answer_in.Tie as tie
+use Rattle.rota_answers.proofs.answer_in.Statement.{statement}
+use Rattle.rota_answers.proofs.answer_in.Tie as tie
 
 -- src/lib.rt:375:49
 cast-holding-at : tie.Need-cast-holding-at

@@ -1,7 +1,8 @@
-use Rattle.rota.proofs.LocatedLaws.{counted, fine, records-fine, few-hours, some-cycle, roles-fine, permissions-fine, users-fine-all, holders-as}
+use Rattle.rota.proofs.LocatedLaws.{counted, fine}
+use Rattle.rota_answers.proofs.AskedLaws.{records-fine, few-hours, some-cycle, roles-fine, permissions-fine, users-fine-all, holders-as}
 use borrow.Author.Needs.{needs}
-use Rattle.rota.proofs.holders_in.Statement.{statement}
-use Rattle.rota.proofs.holders_in.Tie as tie
+use Rattle.rota_answers.proofs.holders_in.Statement.{statement}
+use Rattle.rota_answers.proofs.holders_in.Tie as tie
 
 -- src/lib.rt:390:13
 cast-h : tie.Need-cast-h

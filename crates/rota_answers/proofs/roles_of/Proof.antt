@@ -1,15 +1,15 @@
 use borrow.Author.Needs.{needs}
-use Rattle.rota.proofs.GatherRows.{ofNumber, roleAt, row-within, row-refers}
-use Rattle.rota.specs.Inside.{rolesOfNumber}
+use Rattle.rota_answers.proofs.GatherRows.{ofNumber, roleAt, row-within, row-refers}
+use Rattle.rota_answers.specs.Gathered.{rolesOfNumber}
 use Rattle.rota.specs.RotaBytes.{rolesOf}
 use Rattle.bitset.proofs.GatherLaws.{gather-none, gather-in, gather-out}
 use native.Mathlib.Nat.{le-antisymm}
 use native.Mathlib.Omega.{arith}
 use mathlib.Core.Logic.{⊎-elim}
 use mathlib.Core.Path.{_≡_, refl, _∙_}
 use Prim.Native.Nat.{_≤_, _-_}
-use Rattle.rota.proofs.roles_of.Statement.{statement}
-use Rattle.rota.proofs.roles_of.Tie as tie
+use Rattle.rota_answers.proofs.roles_of.Statement.{statement}
+use Rattle.rota_answers.proofs.roles_of.Tie as tie
 
 abbrev Inv-loop : tie.InvT-loop
 Inv-loop s h set at n top x roles₀ k₀ roles k = (k ≤ n) × (roles ≡ rolesOfNumber s set at k x)

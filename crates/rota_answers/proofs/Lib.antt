@@ -1,0 +1,3 @@
+pub mod GatherRows
+pub mod QuestionLaws
+pub mod AskedLaws
