@@ -3,3 +3,4 @@ pub mod SetsLaws
 pub mod MarkLaws
 pub mod DeriveLaws
 pub mod RoleLaws
+pub mod ScratchLaws

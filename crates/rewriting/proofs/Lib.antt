@@ -1,10 +1,2 @@
-pub mod SlotLaws
-pub mod LocatedLaws
-pub mod DerivedLaws
-pub mod CountLaws
-pub mod WriteLaws
-pub mod FieldLaws
-pub mod FillLaws
 pub mod AnswerLaws
 pub mod TableLaws
-pub mod ScratchLaws

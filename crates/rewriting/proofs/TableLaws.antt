@@ -21,11 +21,12 @@ use Rattle.rota.proofs.RotaWellLaws.{roles-count}
 use Rattle.table.specs.TableBytes.{headerBytes, entryBytes, rowBytes, tableBytes}
 use Rattle.derivation.specs.Rewriting.{rewrite, sizeOf, rewriteOutcome, areaAfter}
 use Rattle.rota.specs.Inside.{Located}
-use Rattle.rewriting.specs.Parts.{HeaderFits, started, lengthWith, CountedTo}
+use Rattle.rewriting.specs.Parts.{HeaderFits, started}
+use Rattle.passes.specs.Parts.{lengthWith, CountedTo}
 use Rattle.rewriting.proofs.AnswerLaws.{too-long, written}
 use Rattle.derive.specs.declared.Count.{Count}
 use Rattle.rota.proofs.LocatedLaws.{fine, counted}
-use Rattle.rewriting.proofs.WriteLaws.{entry-long, row-long, three-runs}
+use Rattle.writing.proofs.WriteLaws.{entry-long, row-long, three-runs}
 
 -- the header of a table with d entries and n rows
 abbrev pub countsWith : Layout → ℕ → ℕ → Counts

@@ -1,6 +1,6 @@
 use native.Mathlib.Omega.{arith}
-use Rattle.rewriting.proofs.FillLaws.{fields-few}
-use Rattle.rewriting.proofs.ScratchLaws.{room-of}
+use Rattle.passes.proofs.FillLaws.{fields-few}
+use Rattle.derive.proofs.ScratchLaws.{room-of}
 use borrow.Author.Needs.{needs}
 use Rattle.rewriting.proofs.rewrite_large.Statement.{statement}
 use Rattle.rewriting.proofs.rewrite_large.Tie as tie

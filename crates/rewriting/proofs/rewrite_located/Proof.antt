@@ -1,5 +1,5 @@
 use native.Mathlib.Omega.{arith}
-use Rattle.rewriting.proofs.FillLaws.{fields-few}
+use Rattle.passes.proofs.FillLaws.{fields-few}
 use Rattle.rewriting.proofs.TableLaws.{lay-asks}
 use borrow.Author.Needs.{needs}
 use Rattle.rewriting.proofs.rewrite_located.Statement.{statement}

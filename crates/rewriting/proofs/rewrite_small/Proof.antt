@@ -1,5 +1,5 @@
 use native.Mathlib.Omega.{arith}
-use Rattle.rewriting.proofs.ScratchLaws.{room-of}
+use Rattle.derive.proofs.ScratchLaws.{room-of}
 use borrow.Author.Needs.{needs}
 use Rattle.rewriting.proofs.rewrite_small.Statement.{statement}
 use Rattle.rewriting.proofs.rewrite_small.Tie as tie

@@ -1,5 +1,5 @@
 use native.Mathlib.Omega.{arith}
-use Rattle.rewriting.proofs.ScratchLaws.{lent-start, lent-on, room-kept}
+use Rattle.derive.proofs.ScratchLaws.{lent-start, lent-on, room-kept}
 use Rattle.rewriting.proofs.TableLaws.{lay-asks}
 use borrow.Author.Needs.{needs}
 use Rattle.rewriting.proofs.rewrite_with.Statement.{statement}
