@@ -7,7 +7,7 @@ ghost use Rattle.table.specs.TableBytes.{derivedOf, entryOf, rowAtByte, rowOf, 
 ghost use Rattle.lines.specs.Written.{Put};
 ghost use Rattle.printout.specs.Listing.{roleText, rowText, rolesText, tableText, listingOf, Text};
 ghost use Rattle.printout.specs.Parts.{TableFits};
-use rewriting::Rewritten;
+use area::Rewritten;
 
 // Room for every listing: 65,536 bytes hold a header and at most 4,095 entries and rows, and 4,096 lines have at most 61 bytes each.
 pub const LONGEST: usize = 249856;

@@ -1,6 +1,6 @@
 use mathlib.Core.Path.{refl, sym, ap, _∙_}
 use native.Mathlib.Omega.{arith}
-use Rattle.rewriting.specs.Answers.{writtenGiven}
+use Rattle.area.specs.Answers.{writtenGiven}
 use Rattle.printout.proofs.ListingLaws.{long-text, refused-text, table-fits, table-text}
 use borrow.Author.Needs.{needs}
 use Rattle.printout.proofs.print.Statement.{statement}

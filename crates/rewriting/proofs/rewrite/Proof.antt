@@ -1,7 +1,7 @@
 use mathlib.Core.Path.{ap, sym, _∙_}
 use Rattle.rota.specs.Inside.{layoutGiven}
 use Rattle.rota.proofs.LocatedLaws.{located-by}
-use Rattle.rewriting.proofs.AnswerLaws.{not-a-rota}
+use Rattle.area.proofs.AnswerLaws.{not-a-rota}
 use borrow.Author.Needs.{needs}
 use Rattle.rewriting.proofs.rewrite.Statement.{statement}
 use Rattle.rewriting.proofs.rewrite.Tie as tie

@@ -1,6 +1,6 @@
 use native.Mathlib.Omega.{arith}
-use Rattle.passes.proofs.FillLaws.{fields-few}
-use Rattle.rewriting.proofs.TableLaws.{lay-asks}
+use Rattle.rewriting.proofs.LayLaws.{fields-few}
+use Rattle.rewriting.proofs.LayLaws.{lay-asks}
 use borrow.Author.Needs.{needs}
 use Rattle.rewriting.proofs.rewrite_located.Statement.{statement}
 use Rattle.rewriting.proofs.rewrite_located.Tie as tie

@@ -1,6 +1,6 @@
 use native.Mathlib.Omega.{arith}
 use Rattle.derive.proofs.ScratchLaws.{lent-start, lent-on, room-kept}
-use Rattle.rewriting.proofs.TableLaws.{lay-asks}
+use Rattle.rewriting.proofs.LayLaws.{lay-asks}
 use borrow.Author.Needs.{needs}
 use Rattle.rewriting.proofs.rewrite_with.Statement.{statement}
 use Rattle.rewriting.proofs.rewrite_with.Tie as tie

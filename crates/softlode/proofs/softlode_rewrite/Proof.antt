@@ -1,5 +1,5 @@
 use borrow.Author.Needs.{needs}
-use Rattle.rewriting.specs.Answers.{writtenGiven}
+use Rattle.area.specs.Answers.{writtenGiven}
 use Rattle.softlode.specs.Told.{writtenTold}
 use Rattle.softlode.proofs.ToldLaws.{told}
 use Rattle.softlode.proofs.softlode_rewrite.Statement.{statement}

@@ -11,7 +11,7 @@ use Rattle.derivation.specs.Rewriting.{rewrite, sizeOf}
 use Rattle.derivation.proofs.RoleByRole.{entriesAt, rowsAt, entriesFrom, rowsFrom, entries-by-role, rows-by-role, entries-next, rows-next, entries-none, rows-none}
 use Rattle.derive.specs.declared.Count.{Count}
 use Rattle.roles.specs.Parts.{RoleDerived, RoleDerivedTo}
-use Rattle.passes.specs.Parts.{lengthWith, CountedTo}
+use Rattle.counting.specs.Parts.{lengthWith, CountedTo}
 
 -- d derived roles and so many rows before role r
 pub record Before (s : List ℕ) (d rows r : ℕ) : Type 0 where

@@ -1,8 +1,8 @@
 use native.Mathlib.Omega.{arith}
-use Rattle.rewriting.proofs.TableLaws.{header-fits, can-write, has-written, has-not}
+use Rattle.area.proofs.TableLaws.{header-fits, can-write, has-written, has-not}
 use borrow.Author.Needs.{needs}
-use Rattle.rewriting.proofs.write_table.Statement.{statement}
-use Rattle.rewriting.proofs.write_table.Tie as tie
+use Rattle.area.proofs.write_table.Statement.{statement}
+use Rattle.area.proofs.write_table.Tie as tie
 
 mul-size : tie.Need-mul-size
 mul-size c = search needs

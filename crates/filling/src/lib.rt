@@ -1,4 +1,4 @@
-// The two passes over all roles of a rota: the first counts, the second writes.
+// The second pass over the roles of a rota: its entries and rows, written.
 ghost use mathlib.Core.Path.{_≡_};
 ghost use Prim.Native.Nat.{_+_, _*_, _≤_};
 ghost use lib.ListN.{length};
@@ -10,43 +10,7 @@ ghost use Rattle.table.specs.TableBytes.{entryBytes, rowBytes};
 ghost use Rattle.derivation.specs.Rewriting.{rewrite, sizeOf};
 ghost use Rattle.derive.specs.Derive.{Room};
 ghost use Rattle.grid.specs.Grid.{Laid};
-ghost use Rattle.roles.specs.Parts.{MasksAre};
-ghost use Rattle.passes.specs.Parts.{CountedTo};
-use derive::Count;
 use rota::Layout;
-
-// Counts the derived roles and rows of all roles. It stops as soon as a table of so many is longer than the room, since the length only grows:
-// within a role by its rows alone, of 16 bytes each.
-pub fn count_all(
-    s: &[u8],
-    l: Layout,
-    masks: &[u64],
-    n: usize,
-    room: usize,
-    us: &mut [u64],
-    ps: &mut [u64],
-    marks: &mut [u16],
-    links: &mut [u16],
-) -> Count
-    requires { ⌜ Located (now s) l × Room n (now masks) (now us) (now ps) (now marks) (now links) × MasksAre (now s) (now masks) n ⌝ }
-    ensures { λ k. ⌜ CountedTo (now (s .entry)) room k ⌝ }
-{
-    let counts = l.counts;
-    let roles = counts.roles as u8;
-    let mut d = 0;
-    let mut rows = 0;
-    let mut r: u8 = 0;
-    while r < roles {
-        let k = roles::derive_role(s, l, r, masks, n, room / 16, us, ps, marks, links);
-        d += k.entries;
-        rows += k.rows;
-        if room < 16 + 17 * d + 16 * rows {
-            return Count { entries: d, rows };
-        }
-        r += 1;
-    }
-    Count { entries: d, rows }
-}
 
 // Writes the entries of all roles from byte 16 on, and their rows after the `total` entries.
 pub fn write_all(

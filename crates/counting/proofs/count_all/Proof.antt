@@ -2,11 +2,11 @@ use native.Mathlib.Omega.{arith}
 use mathlib.Core.Path.{refl, _∙_}
 use Prim.Native.Nat.{_-_}
 use Rattle.rota.specs.RotaBytes.{rolesOf}
-use Rattle.passes.proofs.CountLaws.{Before, before-none, before-next, counted-stop, counted-all}
+use Rattle.counting.proofs.CountLaws.{Before, before-none, before-next, counted-stop, counted-all}
 use Rattle.roles.proofs.LocatedLaws.{roles-are}
 use Rattle.derive.proofs.ScratchLaws.{Lent, lent-start, lent-on, room-kept}
-use Rattle.passes.proofs.count_all.Statement.{statement}
-use Rattle.passes.proofs.count_all.Tie as tie
+use Rattle.counting.proofs.count_all.Statement.{statement}
+use Rattle.counting.proofs.count_all.Tie as tie
 
 abbrev Inv-loop : tie.InvT-loop
 Inv-loop s l masks n room us₀ ps₀ marks₀ links₀ roles d₀ rows₀ r₀ us ps marks links d rows r = Before s d rows r × Lent us₀ ps₀ marks₀ links₀ us ps marks links

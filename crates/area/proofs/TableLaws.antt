@@ -14,16 +14,15 @@ use Rattle.ground.specs.Sequence.{joined}
 use Rattle.ground.specs.Outcome.{refused, given}
 use Rattle.endian.specs.Numbers.{bytes16, bytes32}
 use Rattle.endian.proofs.StandsLaws.{joined-length}
-use Rattle.rota.specs.RotaBytes.{cycleOf, hoursOf, rotaOf}
-use Rattle.rota.specs.RotaRefusals.{rotaJudged}
+use Rattle.rota.specs.RotaBytes.{rotaOf}
 use Rattle.rota.specs.declared.Layout.{Layout}
 use Rattle.rota.proofs.RotaWellLaws.{roles-count}
 use Rattle.table.specs.TableBytes.{headerBytes, entryBytes, rowBytes, tableBytes}
 use Rattle.derivation.specs.Rewriting.{rewrite, sizeOf, rewriteOutcome, areaAfter}
 use Rattle.rota.specs.Inside.{Located}
-use Rattle.rewriting.specs.Parts.{HeaderFits, started}
-use Rattle.passes.specs.Parts.{lengthWith, CountedTo}
-use Rattle.rewriting.proofs.AnswerLaws.{too-long, written}
+use Rattle.area.specs.Parts.{HeaderFits, started}
+use Rattle.counting.specs.Parts.{lengthWith, CountedTo}
+use Rattle.area.proofs.AnswerLaws.{too-long, written}
 use Rattle.derive.specs.declared.Count.{Count}
 use Rattle.rota.proofs.LocatedLaws.{fine, counted}
 use Rattle.writing.proofs.WriteLaws.{entry-long, row-long, three-runs}
@@ -94,10 +93,6 @@ module _ (s : List ℕ) (l : Layout) (w : Located s l) where
         ∙ three-runs out (headerBytes (τ .cycle) (τ .users) (τ .permissions) (τ .roles) (length (τ .entries)) (length (τ .rows))) e r (16 + 17 * d)
         (header-long (τ .cycle) (τ .users) (τ .permissions) (τ .roles) (length (τ .entries)) (length (τ .rows))) (omega (arith, ed)) (omega arith)
         ∙ ap₂ (λ (x y : ℕ). tableBytes τ ++ drop (16 + x + y) out) le lr
-
-  -- what laying out the fields asks
-  pub lay-asks : (rotaJudged s ≡ 0) × (l .counts .cycle ≡ cycleOf s) × (l .counts .hours ≡ hoursOf s)
-  lay-asks = (w .accepted, counted s l w .cycle, counted s l w .hours)
 
   -- what becomes of an area once its header is written or not
   module _ (area : List ℕ) (k : Count) (q : CountedTo s (length area) k) (b : Bool) (after : List ℕ) (eb : b ≡ leb (lengthWith (k .entries) (k .rows)) (length area))

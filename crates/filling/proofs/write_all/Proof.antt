@@ -3,12 +3,12 @@ use lib.ListN.{length}
 use mathlib.Core.Path.{refl, ap}
 use Prim.Native.Nat.{_-_, _<_}
 use Rattle.rota.specs.RotaBytes.{rolesOf}
-use Rattle.passes.proofs.FillLaws.{Filling, filling-start, filling-turn, filling-end, entries-room, rows-room, role-rows-are, cells-fit, size-room}
-use Rattle.passes.proofs.CountLaws.{role-whole}
+use Rattle.filling.proofs.FillLaws.{Filling, filling-start, filling-turn, filling-end, entries-room, rows-room, role-rows-are, cells-fit, size-room}
+use Rattle.counting.proofs.CountLaws.{role-whole}
 use Rattle.roles.proofs.LocatedLaws.{roles-are, cycle-fits}
 use Rattle.derive.proofs.ScratchLaws.{Lent, lent-start, lent-on, room-kept}
-use Rattle.passes.proofs.write_all.Statement.{statement}
-use Rattle.passes.proofs.write_all.Tie as tie
+use Rattle.filling.proofs.write_all.Statement.{statement}
+use Rattle.filling.proofs.write_all.Tie as tie
 
 abbrev Inv-loop : tie.InvT-loop
 Inv-loop s l out₀ total eras ne cells nc masks us₀ ps₀ marks₀ links₀ roles d₀ p₀ r₀ out us ps marks links d p r = Filling s total out₀ out d p r × Lent us₀ ps₀ marks₀ links₀ us ps marks links

@@ -4,7 +4,6 @@ use Prim.Native.Nat.{ℕ, _+_, _-_, _*_, _≤_, _<_}
 use mathlib.Core.Path.{_≡_, refl, sym, _∙_, ap, ap₂}
 use mathlib.Core.List.{List, _++_}
 use native.Mathlib.Omega.{arith}
-use native.Mathlib.Nat.{mul-le-mul-right}
 use lib.ListN.{length, take, length-append}
 use lib.Seq.{sets, length-sets}
 use Rattle.ground.specs.Sequence.{joined}
@@ -20,11 +19,11 @@ use Rattle.derivation.proofs.RoleByRole.{entriesAt, rowsAt, entriesFrom, rowsFr
 use Rattle.derivation.proofs.RoleMarks.{rowsMarked}
 use Rattle.index.specs.Entries.{entriesTo}
 use Rattle.derive.specs.declared.Count.{Count}
-use Rattle.grid.specs.Grid.{Cuts, Divided, Laid}
+use Rattle.grid.specs.Grid.{Cuts, Laid}
 use Rattle.roles.specs.Parts.{RoleDerived}
 use Rattle.writing.specs.Parts.{roleRows}
 use Rattle.writing.proofs.WriteLaws.{entry-long, row-long}
-use Rattle.passes.proofs.CountLaws.{all-entries, all-rows}
+use Rattle.counting.proofs.CountLaws.{all-entries, all-rows}
 
 -- the arrays have the rota's fields
 pub role-rows-are : (s eras cells masks : List ℕ) (ne nc : ℕ) → Laid s eras cells masks ne nc → (r : ℕ) (us ps marks : List ℕ) (k : Count)
@@ -137,6 +136,3 @@ pub size-room : (s : List ℕ) (total n : ℕ) → total ≡ length (rewrite (ro
     → 16 + 17 * total + 16 * length (rewrite (rotaOf s) .rows) ≤ n
 unfolding sizeOf
 size-room s total n e h = omega (arith, e)
-
-pub fields-few : {s eras cells : List ℕ} {ne nc : ℕ} → Divided s eras cells ne nc → ne * nc ≤ 33345
-fields-few {nc = nc} d = omega (arith, mul-le-mul-right nc (d .few-eras), d .few-cells)
