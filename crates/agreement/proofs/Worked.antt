@@ -32,14 +32,15 @@ use Rattle.derivation.specs.Rewriting.{hoursCuts, pairCuts, pairsCuts, eraCuts,
 use Rattle.minutes.specs.First.{firstIn}
 use Rattle.derivation.specs.Masks.{maskOf, slotOf, assignedIn, usersIn, permissionsIn, keptIn}
 use Rattle.derivation.proofs.RewritingTheorems.{kept-mask, worked-field}
-use Rattle.agreement.specs.Worked.{Worked}
-use Rattle.derivation.proofs.RoleByRole.{entriesFrom, rowsFrom, entries-by-role, rows-by-role}
-use Rattle.derivation.proofs.RoleMarks.{derivedFrom, marksFrom, rowsMarked, Agree, agree-masks, role-entries, role-rows}
+use Rattle.derivation.specs.Roles.{entriesFrom, rowsFrom, nextEntries, markOf, derivedFrom, marksFrom, rowsMarked}
+use Rattle.derivation.proofs.RoleByRole.{entries-by-role, rows-by-role}
+use Rattle.derivation.proofs.RoleMarks.{Agree, agree-masks, role-entries, role-rows}
 use Rattle.service.specs.Machine.{staying, stateJudged, advanceJudged, openJudged, callJudged, given-by, left-by, settled, stepBy, machineStep}
+use Rattle.agreement.specs.Worked.{Worked}
 
 -- opens every definition that an example computes through
 unfoldable opened : Unit {0}
-unfolding E inPhase any anyBelow firstOf lowestBelow countBelow listOf u16At u32At holds refHolds refOf dangling recordAt pairsBefore hoursFrom earliest pairJudged hoursJudged recordJudged refuse _orElse_ inTurn enabled assigned hasUser hasPermission through answer rotaOf countsOver headerJudged roleJudged rowBad rowJudged rotaJudged holdsAny has setOf insert remove difference count insertCut sortInto gapsFrom gaps addNew addAll placeOf hoursCuts pairCuts pairsCuts eraCuts cellCuts fieldsOf fields firstIn maskOf slotOf assignedIn usersIn permissionsIn keptIn derivedFrom marksFrom rowsMarked staying stateJudged advanceJudged openJudged callJudged given-by left-by settled stepBy machineStep
+unfolding E inPhase any anyBelow firstOf lowestBelow countBelow listOf u16At u32At holds refHolds refOf dangling recordAt pairsBefore hoursFrom earliest pairJudged hoursJudged recordJudged refuse _orElse_ inTurn enabled assigned hasUser hasPermission through answer rotaOf countsOver headerJudged roleJudged rowBad rowJudged rotaJudged holdsAny has setOf insert remove difference count insertCut sortInto gapsFrom gaps addNew addAll placeOf hoursCuts pairCuts pairsCuts eraCuts cellCuts fieldsOf fields firstIn maskOf slotOf assignedIn usersIn permissionsIn keptIn nextEntries markOf derivedFrom marksFrom rowsMarked staying stateJudged advanceJudged openJudged callJudged given-by left-by settled stepBy machineStep
 opened = tt
 
 abbrev ρ : Rota
@@ -58,8 +59,8 @@ one-role : 0 < length (ρ .roles)
 unfolding opened
 one-role = omega arith
 
-agree : Agree ρ 0 (fields ρ) (map (maskOf ρ) (fields ρ))
-agree = agree-masks ρ 0 (maskOf ρ) (fields ρ) (each (fields ρ) (λ f m. kept-mask well 0 one-role f m))
+agree : Agree ρ 0 (keptIn ρ 0) (fields ρ) (map (maskOf ρ) (fields ρ))
+agree = agree-masks ρ 0 (keptIn ρ 0) (maskOf ρ) (fields ρ) (each (fields ρ) (λ f m. kept-mask well 0 one-role f m))
 
 abbrev entry : ℕ → ℕ → ℕ → Entry
 entry r u p = record { source = r; users = u; permissions = p }
@@ -69,13 +70,13 @@ row d b e o l = record { derived = d; window = record { begin = b; end = e; offs
 
 pub small-entries : rewrite ρ .entries ≡ entry 0 1 1 ∷ entry 0 3 1 ∷ entry 0 2 1 ∷ []
 unfolding opened entriesFrom
-small-entries = entries-by-role ρ ∙ ap (λ (l : List Entry). l ++ []) (role-entries ρ 0 (map (maskOf ρ) (fields ρ)) agree)
+small-entries = entries-by-role ρ ∙ ap (λ (l : List Entry). l ++ []) (role-entries ρ 0 (keptIn ρ 0) (map (maskOf ρ) (fields ρ)) agree)
 
 pub small-rows : rewrite ρ .rows
     ≡ row 0 0 10 0 2 ∷ row 0 0 10 2 2 ∷ row 0 0 10 6 1 ∷ row 0 0 10 7 1 ∷ row 0 10 20 0 2 ∷ row 1 10 20 2 2 ∷ row 2 10 20 4 2 ∷ row 1 10 20 6 1 ∷ row 0 10 20 7 1
     ∷ row 2 20 40 2 2 ∷ row 2 20 40 4 2 ∷ row 2 20 40 6 1 ∷ []
 unfolding opened rowsFrom
-small-rows = rows-by-role ρ ∙ ap (λ (l : List Row). l ++ []) (role-rows ρ 0 (map (maskOf ρ) (fields ρ)) agree 0)
+small-rows = rows-by-role ρ ∙ ap (λ (l : List Row). l ++ []) (role-rows ρ 0 (keptIn ρ 0) (map (maskOf ρ) (fields ρ)) agree 0)
 
 pub small-size : sizeOf (rewrite ρ) ≡ 259
 unfolding sizeOf

@@ -8,7 +8,8 @@ use lib.ListN.{length, length-append}
 use Rattle.rota.specs.RotaBytes.{rolesOf, rotaOf}
 use Rattle.rota.proofs.RotaWellLaws.{roles-count}
 use Rattle.derivation.specs.Rewriting.{rewrite, sizeOf}
-use Rattle.derivation.proofs.RoleByRole.{entriesAt, rowsAt, entriesFrom, rowsFrom, entries-by-role, rows-by-role, entries-next, rows-next, entries-none, rows-none}
+use Rattle.derivation.specs.Roles.{entriesAt, rowsAt, entriesFrom, rowsFrom}
+use Rattle.derivation.proofs.RoleByRole.{entries-by-role, rows-by-role, entries-next, rows-next, entries-none, rows-none}
 use Rattle.derive.specs.declared.Count.{Count}
 use Rattle.roles.specs.Parts.{RoleDerived, RoleDerivedTo}
 use Rattle.counting.specs.Parts.{lengthWith, CountedTo}

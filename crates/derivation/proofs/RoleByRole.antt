@@ -1,7 +1,5 @@
 -- The rewriting role by role, as a loop over the roles goes about it: the table's entries are those of the roles in order, and so are its rows,
 -- with each role's derived roles counted on from those of the roles before.
---     entriesAt, rowsAt              of one role
---     entriesFrom, rowsFrom          of n roles from one on
 --     entries-by-role, rows-by-role  they are the table's
 --     entries-next, rows-next        one role more; entries-none, rows-none where no role is left
 --     entriesAt-derived              what holds of one role's derived roles
@@ -16,32 +14,12 @@ use native.Mathlib.Omega.{arith}
 use lib.ListN.{length, length-append}
 use Rattle.ground.specs.Sequence.{All}
 use Rattle.rota.specs.Rota.{Rota}
-use Rattle.table.specs.Table.{Entry, Row}
+use Rattle.table.specs.Table.{Entry}
 use Rattle.derivation.specs.Distinct.{addAll, placeOf}
 use Rattle.derivation.specs.Rewriting.{fields, Kept, keptOf, keptFrom, kept, same, entriesOf, rowOf, rewrite}
+use Rattle.derivation.specs.Roles.{entriesAt, rowAt, rowsAt, entriesFrom, rowsFrom}
 use Rattle.derivation.proofs.TableDistinct.{there, addAll-append, addAll-skip, place-more, place-skip}
 use Rattle.derivation.proofs.TableKept.{entry, other-source, entries-there, entries-all, DerivedOf, keptOf-entries, keptFrom-source}
-
--- the derived roles of role r
-unfoldable pub entriesAt : Rota → ℕ → List Entry
-entriesAt ρ r = entriesOf (keptOf ρ r (fields ρ))
-
--- a kept field's row, with the derived roles es counted on from base
-abbrev pub rowAt : ℕ → List Entry → Kept → Row
-rowAt base es k = record { derived = base + placeOf same (k .entry) es; window = k .field }
-
--- the rows of role r
-unfoldable pub rowsAt : Rota → ℕ → ℕ → List Row
-rowsAt ρ r base = map (rowAt base (entriesAt ρ r)) (keptOf ρ r (fields ρ))
-
--- n roles from r on
-unfoldable pub entriesFrom : Rota → ℕ → ℕ → List Entry
-entriesFrom ρ zero r = []
-entriesFrom ρ (suc n) r = entriesAt ρ r ++ entriesFrom ρ n (suc r)
-
-unfoldable pub rowsFrom : Rota → ℕ → ℕ → ℕ → List Row
-rowsFrom ρ zero r base = []
-rowsFrom ρ (suc n) r base = rowsAt ρ r base ++ rowsFrom ρ n (suc r) (base + length (entriesAt ρ r))
 
 module _ (ρ : Rota) where
   -- the sources of one role's derived roles

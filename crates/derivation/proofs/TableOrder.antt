@@ -19,7 +19,8 @@ use Rattle.derivation.specs.Rewriting.{fields, Kept, keptOf, kept, same,
 use Rattle.derivation.proofs.TableDistinct.{there, place-below, place-is}
 use Rattle.derivation.proofs.TableFields.{FieldWell, fields-well}
 use Rattle.derivation.proofs.TableKept.{same-is, entries-there, entries-all, entries-length, keptOf-fields, keptOf-entries, keptFrom-all, After, kept-ordered, kept-few}
-use Rattle.derivation.proofs.RoleByRole.{entriesAt, entriesFrom, entriesAt-derived, entries-by-role}
+use Rattle.derivation.specs.Roles.{entriesAt, entriesFrom}
+use Rattle.derivation.proofs.RoleByRole.{entriesAt-derived, entries-by-role}
 
 -- sources that ascend, role by role
 ascending-from : (a b : ℕ) (es : List Entry) → a ≤ b → Ascending b es → Ascending a es

@@ -4,5 +4,6 @@ pub mod Rewriting
 pub mod Meaning
 pub mod Untimed
 pub mod Masks
+pub mod Roles
 pub mod Constancy
 pub mod Worked

@@ -13,24 +13,24 @@ use lib.Seq.{take-suc-set, append-snoc, length-take-le, slice-empty, slice-cons}
 use borrow.Author.Tests.{lt-ltb, le-ltb}
 use Rattle.ground.specs.Choice.{pick}
 use Rattle.table.specs.Table.{Entry}
-use Rattle.derivation.specs.Rewriting.{same}
-use Rattle.derivation.proofs.TableDistinct.{add-length}
+use Rattle.derivation.specs.Roles.{nextEntries, markOf, derivedFrom, marksFrom}
+use Rattle.derivation.proofs.RoleMarks.{derived-length}
 use Rattle.derive.specs.declared.Role.{Role}
 use Rattle.index.specs.Entries.{entriesWith, entriesTo}
 use Rattle.index.proofs.EntryLaws.{entries-length}
 use Rattle.derive.specs.declared.Sets.{Sets}
 use Rattle.derive.specs.Role.{keptWith, keptBy, Gathered}
-use Rattle.derive.specs.Derive.{nextEntries, markOf, entriesFrom, marksFrom, rowsIn, grown, Marked, Derived, DerivedTo}
+use Rattle.derive.specs.Derive.{rowsIn, grown, Marked, Derived, DerivedTo}
 
 -- ---- one mask more
 
 module _ (g : ℕ → Option Entry) (n : ℕ) (masks : List ℕ) (i : ℕ) (hi : i < n) (hm : n ≤ length masks) (es es′ : List Entry) (m : ℕ)
     (em : m ≡ markOf es (g (getD masks i 0))) (ee : es′ ≡ nextEntries es (g (getD masks i 0))) where
-  entries-turn : entriesFrom g es′ (drop (i + 1) (take n masks)) ≡ entriesFrom g es (drop i (take n masks))
-  unfolding entriesFrom
+  entries-turn : derivedFrom g es′ (drop (i + 1) (take n masks)) ≡ derivedFrom g es (drop i (take n masks))
+  unfolding derivedFrom
   entries-turn =
-      ap₂ (λ (e : List Entry) (k : ℕ). entriesFrom g e (drop k (take n masks))) ee (add-one i)
-      ∙ ap (entriesFrom g es) (sym (slice-cons i n masks 0 hi hm))
+      ap₂ (λ (e : List Entry) (k : ℕ). derivedFrom g e (drop k (take n masks))) ee (add-one i)
+      ∙ ap (derivedFrom g es) (sym (slice-cons i n masks 0 hi hm))
 
   rest-marks : m ∷ marksFrom g es′ (drop (i + 1) (take n masks)) ≡ marksFrom g es (drop i (take n masks))
   unfolding marksFrom
@@ -53,9 +53,9 @@ module _ (g : ℕ → Option Entry) (n : ℕ) (masks : List ℕ) (i : ℕ) (hi :
       omega arith
 
 module _ (g : ℕ → Option Entry) (n : ℕ) (masks : List ℕ) (es : List Entry) where
-  entries-end : entriesFrom g es (drop n (take n masks)) ≡ es
-  unfolding entriesFrom
-  entries-end = ap (entriesFrom g es) (slice-empty n masks)
+  entries-end : derivedFrom g es (drop n (take n masks)) ≡ es
+  unfolding derivedFrom
+  entries-end = ap (derivedFrom g es) (slice-empty n masks)
 
   marks-end : (l : List ℕ) → l ++ marksFrom g es (drop n (take n masks)) ≡ l
   unfolding marksFrom
@@ -64,16 +64,6 @@ module _ (g : ℕ → Option Entry) (n : ℕ) (masks : List ℕ) (es : List Entr
   rows-end : rowsIn (marksFrom g es (drop n (take n masks))) ≡ 0
   unfolding marksFrom rowsIn
   rows-end = ap (λ (q : List ℕ). rowsIn (marksFrom g es q)) (slice-empty n masks)
-
--- entries are only added
-entries-grow : (g : ℕ → Option Entry) (es : List Entry) (ms : List ℕ) → length es ≤ length (entriesFrom g es ms)
-unfolding entriesFrom
-entries-grow g es [] = omega arith
-entries-grow g es (m ∷ ms) = omega (arith, next-grow (g m), entries-grow g (nextEntries es (g m)) ms)
-  where
-    next-grow : (o : Option Entry) → length es ≤ length (nextEntries es o)
-    next-grow none = unfold nextEntries in omega arith
-    next-grow (some e) = unfold nextEntries in add-length same es e .0
 
 -- ---- the loop
 
@@ -84,7 +74,7 @@ pub record Deriving (role : Role) (n : ℕ) (masks us₀ ps₀ marks₀ us ps ma
   pub long-users : length us ≡ length us₀
   pub long-permissions : length ps ≡ length ps₀
   pub long-marks : length marks ≡ length marks₀
-  pub entries : entriesFrom (keptBy role) (entriesTo (role .source) d us ps) (drop i (take n masks)) ≡ entriesFrom (keptBy role) [] (take n masks)
+  pub entries : derivedFrom (keptBy role) (entriesTo (role .source) d us ps) (drop i (take n masks)) ≡ derivedFrom (keptBy role) [] (take n masks)
   pub marks-so : take i marks ++ marksFrom (keptBy role) (entriesTo (role .source) d us ps) (drop i (take n masks)) ≡ marksFrom (keptBy role) [] (take n masks)
   pub rows-so : rows + rowsIn (marksFrom (keptBy role) (entriesTo (role .source) d us ps) (drop i (take n masks))) ≡ rowsIn (marksFrom (keptBy role) [] (take n masks))
 
@@ -165,14 +155,14 @@ module _ (role : Role) (n : ℕ) (masks us₀ ps₀ marks₀ us ps marks : List 
       last p q = omega arith
 
   -- so far: what is left adds to it
-  so-far : n ≤ length us₀ → n ≤ length ps₀ → d ≤ length (entriesFrom (keptBy role) [] (take n masks))
+  so-far : n ≤ length us₀ → n ≤ length ps₀ → d ≤ length (derivedFrom (keptBy role) [] (take n masks))
   so-far hu hp =
       let es = entriesTo (role .source) d us ps in
       let e : length es ≡ d
       = entries-length (role .source) (take d us) (take d ps)
       (length-take-le d us (omega (arith, s .few, s .within, s .long-users)) ∙ sym (length-take-le d ps (omega (arith, s .few, s .within, s .long-permissions))))
       ∙ length-take-le d us (omega (arith, s .few, s .within, s .long-users)) in
-      omega (arith, entries-grow (keptBy role) es (drop i (take n masks)), ap length (s .entries))
+      omega (arith, derived-length (keptBy role) es (drop i (take n masks)) .0, ap length (s .entries))
 
   pub deriving-to : (limit : ℕ) → n ≤ length us₀ → n ≤ length ps₀ → (rows ≤ limit → i ≡ n) → DerivedTo limit role masks n us ps marks (record { entries = d; rows = rows })
   deriving-to limit hu hp ends =
@@ -183,10 +173,3 @@ module _ (role : Role) (n : ℕ) (masks us₀ ps₀ marks₀ us ps marks : List 
         rows-least = omega (arith, s .rows-so);
         whole = λ h. deriving-end (ends h) hu hp;
       }
-
--- ---- there is one mark for each mask
-
-pub marks-count : (g : ℕ → Option Entry) (es : List Entry) (ms : List ℕ) → length (marksFrom g es ms) ≡ length ms
-unfolding marksFrom
-marks-count g es [] = refl
-marks-count g es (m ∷ ms) = ap suc (marks-count g (nextEntries es (g m)) ms)

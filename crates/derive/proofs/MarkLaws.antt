@@ -11,9 +11,10 @@ use lib.Dec.{eqb}
 use borrow.Author.Tests.{eq-eqb, ne-eqb, eqb-true, eqb-false}
 use Rattle.ground.specs.Choice.{pick}
 use Rattle.table.specs.Table.{Entry}
+use Rattle.derivation.specs.Roles.{nextEntries, markOf}
 use Rattle.index.specs.Entries.{entriesTo, after, Entered}
 use Rattle.index.specs.Tree.{Indexed}
-use Rattle.derive.specs.Derive.{nextEntries, markOf, grown, Marked}
+use Rattle.derive.specs.Derive.{grown, Marked}
 
 -- ---- how many entries there are after a mark
 

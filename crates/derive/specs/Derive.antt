@@ -1,36 +1,17 @@
 -- The derived roles of one role in the order in which they come, and the mark of each field.
-use Prim.Native.Nat.{ℕ, suc, _+_, _*_, _≤_}
+use Prim.Native.Nat.{ℕ, _+_, _*_, _≤_}
 use mathlib.Core.Path.{_≡_}
-use mathlib.Core.Option.{Option, none, some}
+use mathlib.Core.Option.{Option}
 use mathlib.Core.List.{List, [], _∷_}
 use lib.Dec.{ltb, eqb}
 use lib.ListN.{length, take}
 use Rattle.ground.specs.Choice.{pick}
 use Rattle.table.specs.Table.{Entry}
-use Rattle.derivation.specs.Distinct.{addNew, placeOf}
-use Rattle.derivation.specs.Rewriting.{same}
+use Rattle.derivation.specs.Roles.{nextEntries, markOf, derivedFrom, marksFrom}
 use Rattle.index.specs.Entries.{entriesTo}
 use Rattle.derive.specs.declared.Role.{Role}
 use Rattle.derive.specs.declared.Count.{Count}
 use Rattle.derive.specs.Role.{keptBy}
-
--- the entries after a field, and the field's mark: 0 where it is not kept, else one more than the place of its entry
-unfoldable pub nextEntries : List Entry → Option Entry → List Entry
-nextEntries es none = es
-nextEntries es (some e) = addNew same es e
-
-unfoldable pub markOf : List Entry → Option Entry → ℕ
-markOf es none = 0
-markOf es (some e) = suc (placeOf same e es)
-
--- over masks, of which g says what a field with each gives
-unfoldable pub entriesFrom : (ℕ → Option Entry) → List Entry → List ℕ → List Entry
-entriesFrom g es [] = es
-entriesFrom g es (m ∷ ms) = entriesFrom g (nextEntries es (g m)) ms
-
-unfoldable pub marksFrom : (ℕ → Option Entry) → List Entry → List ℕ → List ℕ
-marksFrom g es [] = []
-marksFrom g es (m ∷ ms) = markOf es (g m) ∷ marksFrom g (nextEntries es (g m)) ms
 
 -- a mark that is not 0 is a row
 unfoldable pub rowsIn : List ℕ → ℕ
@@ -63,8 +44,8 @@ roleMade source on users permissions = record { source = source; on = on; users 
 pub record Derived (role : Role) (masks : List ℕ) (n : ℕ) (us ps marks : List ℕ) (r : Count) : Type 0 where
   pub few : r .entries ≤ n
   pub few-rows : r .rows ≤ n
-  pub count-is : r .entries ≡ length (entriesFrom (keptBy role) [] (take n masks))
-  pub entries-are : entriesTo (role .source) (r .entries) us ps ≡ entriesFrom (keptBy role) [] (take n masks)
+  pub count-is : r .entries ≡ length (derivedFrom (keptBy role) [] (take n masks))
+  pub entries-are : entriesTo (role .source) (r .entries) us ps ≡ derivedFrom (keptBy role) [] (take n masks)
   pub marks-are : take n marks ≡ marksFrom (keptBy role) [] (take n masks)
   pub rows-are : r .rows ≡ rowsIn (marksFrom (keptBy role) [] (take n masks))
 
@@ -72,6 +53,6 @@ pub record Derived (role : Role) (masks : List ℕ) (n : ℕ) (us ps marks : Lis
 pub record DerivedTo (limit : ℕ) (role : Role) (masks : List ℕ) (n : ℕ) (us ps marks : List ℕ) (r : Count) : Type 0 where
   pub few : r .entries ≤ n
   pub few-rows : r .rows ≤ n
-  pub entries-least : r .entries ≤ length (entriesFrom (keptBy role) [] (take n masks))
+  pub entries-least : r .entries ≤ length (derivedFrom (keptBy role) [] (take n masks))
   pub rows-least : r .rows ≤ rowsIn (marksFrom (keptBy role) [] (take n masks))
   pub whole : r .rows ≤ limit → Derived role masks n us ps marks r

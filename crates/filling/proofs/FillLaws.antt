@@ -15,8 +15,8 @@ use Rattle.table.specs.Table.{Entry, Row}
 use Rattle.table.specs.TableBytes.{entryBytes, rowBytes}
 use Rattle.derivation.specs.Cuts.{gaps}
 use Rattle.derivation.specs.Rewriting.{fieldsOf, fields, rewrite, sizeOf}
-use Rattle.derivation.proofs.RoleByRole.{entriesAt, rowsAt, entriesFrom, rowsFrom, entries-next, rows-next, entries-none, rows-none}
-use Rattle.derivation.proofs.RoleMarks.{rowsMarked}
+use Rattle.derivation.specs.Roles.{entriesAt, rowsAt, entriesFrom, rowsFrom, rowsMarked}
+use Rattle.derivation.proofs.RoleByRole.{entries-next, rows-next, entries-none, rows-none}
 use Rattle.index.specs.Entries.{entriesTo}
 use Rattle.derive.specs.declared.Count.{Count}
 use Rattle.grid.specs.Grid.{Cuts, Laid}

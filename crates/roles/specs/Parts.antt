@@ -7,8 +7,7 @@ use Rattle.rota.specs.RotaBytes.{hoursOf, rotaOf, rowAt}
 use Rattle.rota.specs.RotaWell.{RefWell}
 use Rattle.derivation.specs.Rewriting.{fields}
 use Rattle.derivation.specs.Masks.{maskOf}
-use Rattle.derivation.proofs.RoleByRole.{entriesAt, rowsAt}
-use Rattle.derivation.proofs.RoleMarks.{rowsMarked}
+use Rattle.derivation.specs.Roles.{entriesAt, rowsAt, rowsMarked}
 use Rattle.index.specs.Entries.{entriesTo}
 use Rattle.derive.specs.declared.Count.{Count}
 

@@ -15,7 +15,7 @@ use Rattle.table.specs.TableBytes.{rowBytes}
 use Rattle.table.specs.Inside.{rowMade}
 use Rattle.derivation.specs.Cuts.{Gap, gapsFrom, gaps}
 use Rattle.derivation.specs.Rewriting.{fieldOf, fieldsOf}
-use Rattle.derivation.proofs.RoleMarks.{marked, rowsMarked}
+use Rattle.derivation.specs.Roles.{marked, rowsMarked}
 use Rattle.derivation.proofs.TableCuts.{gaps-length}
 use Rattle.writing.specs.Parts.{cellOf, eraRows, roleRows}
 use Rattle.writing.proofs.WriteLaws.{Writing, row-long, writing-turn, writing-room}

@@ -6,7 +6,7 @@ use lib.ListN.{take, drop}
 use Rattle.table.specs.Table.{Row}
 use Rattle.derivation.specs.Cuts.{gaps}
 use Rattle.derivation.specs.Rewriting.{fieldOf, fieldsOf}
-use Rattle.derivation.proofs.RoleMarks.{rowsMarked}
+use Rattle.derivation.specs.Roles.{rowsMarked}
 
 -- the field of an era and a cell
 abbrev pub cellOf : ℕ → ℕ → ℕ → ℕ → Window

@@ -6,7 +6,7 @@ ghost use lib.ListN.{length, take};
 ghost use lib.Seq.{sets};
 ghost use Rattle.ground.specs.Sequence.{joined};
 ghost use Rattle.table.specs.TableBytes.{entryBytes, rowBytes};
-ghost use Rattle.derivation.proofs.RoleMarks.{marked};
+ghost use Rattle.derivation.specs.Roles.{marked};
 ghost use Rattle.index.specs.Entries.{entriesTo};
 ghost use Rattle.grid.specs.Grid.{Cuts};
 ghost use Rattle.writing.specs.Parts.{cellOf, eraRows, roleRows};
