@@ -1,11 +1,11 @@
-// The table in the area: written where it fits, else nothing is.
+// The table in the area, by way of lent scratch: written where it fits, else nothing is.
 ghost use mathlib.Core.Path.{_≡_};
 ghost use Prim.Native.Nat.{_*_, _≤_};
 ghost use lib.ListN.{length};
 ghost use Rattle.rota.specs.Inside.{Located};
 ghost use Rattle.derivation.specs.Rewriting.{rewriteOutcome, areaAfter};
 ghost use Rattle.derive.specs.Derive.{Room};
-ghost use Rattle.grid.specs.Grid.{Laid};
+ghost use Rattle.grid.specs.Grid.{Divided, Laid};
 ghost use Rattle.counting.specs.Parts.{CountedTo};
 ghost use lib.Dec.{leb};
 ghost use Rattle.area.specs.Parts.{HeaderFits, started};
@@ -36,7 +36,7 @@ fn start_table(out: &mut [u8], header: table::Counts, size: usize) -> bool
 }
 
 // Writes the table where it fits the area: 20 where it does not.
-pub fn write_table(
+fn write_table(
     s: &[u8],
     l: Layout,
     out: &mut [u8],
@@ -89,4 +89,42 @@ pub fn write_table(
         };
     }
     Rewritten::Refused(20)
+}
+
+// Rewrites a rota that is read and divided, in lent scratch with a place for each field.
+pub fn rewrite_with(
+    s: &[u8],
+    l: Layout,
+    out: &mut [u8],
+    eras: &[u32; 66],
+    ne: usize,
+    cells: &[u32; 514],
+    nc: usize,
+    masks: &mut [u64],
+    us: &mut [u64],
+    ps: &mut [u64],
+    marks: &mut [u16],
+    links: &mut [u16],
+) -> Rewritten
+    requires { ⌜ Located (now s) l × Divided (now s) (now eras) (now cells) ne nc × Room (ne * nc) (now masks) (now us) (now ps) (now marks) (now links) ⌝ }
+    ensures { λ r. ⌜ (writtenGiven r ≡ rewriteOutcome (now (s .entry)) (length (now (out .entry)))) × (now (out .exit) ≡ areaAfter (now (s .entry)) (now (out .entry))) ⌝ }
+{
+    let n = l.counts;
+    grid::lay(s, n.cycle, n.hours as usize, eras, ne, cells, nc, masks);
+    let k = counting::count_all(s, l, masks, ne * nc, out.len(), us, ps, marks, links);
+    write_table(
+        s,
+        l,
+        out,
+        k,
+        eras,
+        ne,
+        cells,
+        nc,
+        masks,
+        us,
+        ps,
+        marks,
+        links,
+    )
 }

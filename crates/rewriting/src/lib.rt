@@ -4,50 +4,11 @@ ghost use Prim.Native.Nat.{_*_, _≤_};
 ghost use lib.ListN.{length};
 ghost use Rattle.rota.specs.Inside.{Located};
 ghost use Rattle.derivation.specs.Rewriting.{rewriteOutcome, areaAfter};
-ghost use Rattle.derive.specs.Derive.{Room};
 ghost use Rattle.grid.specs.Grid.{Divided};
 ghost use Rattle.area.specs.Answers.{writtenGiven};
 use area::Rewritten;
 use rota::Layout;
 use rota::LayoutAnswer;
-
-// Rewrites a rota that is read and divided, in lent scratch with a place for each field.
-fn rewrite_with(
-    s: &[u8],
-    l: Layout,
-    out: &mut [u8],
-    eras: &[u32; 66],
-    ne: usize,
-    cells: &[u32; 514],
-    nc: usize,
-    masks: &mut [u64],
-    us: &mut [u64],
-    ps: &mut [u64],
-    marks: &mut [u16],
-    links: &mut [u16],
-) -> Rewritten
-    requires { ⌜ Located (now s) l × Divided (now s) (now eras) (now cells) ne nc × Room (ne * nc) (now masks) (now us) (now ps) (now marks) (now links) ⌝ }
-    ensures { λ r. ⌜ (writtenGiven r ≡ rewriteOutcome (now (s .entry)) (length (now (out .entry)))) × (now (out .exit) ≡ areaAfter (now (s .entry)) (now (out .entry))) ⌝ }
-{
-    let n = l.counts;
-    grid::lay(s, n.cycle, n.hours as usize, eras, ne, cells, nc, masks);
-    let k = counting::count_all(s, l, masks, ne * nc, out.len(), us, ps, marks, links);
-    area::write_table(
-        s,
-        l,
-        out,
-        k,
-        eras,
-        ne,
-        cells,
-        nc,
-        masks,
-        us,
-        ps,
-        marks,
-        links,
-    )
-}
 
 // Scratch is cleared before use, so it comes in three sizes, each in a function of its own: a small rota does not pay for the largest.
 fn rewrite_small(
@@ -67,7 +28,7 @@ fn rewrite_small(
     let mut ps = [0u64; 256];
     let mut marks = [0u16; 256];
     let mut links = [0u16; 1024];
-    rewrite_with(
+    area::rewrite_with(
         s,
         l,
         out,
@@ -100,7 +61,7 @@ fn rewrite_middle(
     let mut ps = [0u64; 4096];
     let mut marks = [0u16; 4096];
     let mut links = [0u16; 8704];
-    rewrite_with(
+    area::rewrite_with(
         s,
         l,
         out,
@@ -134,7 +95,7 @@ fn rewrite_large(
     let mut ps = [0u64; 33345];
     let mut marks = [0u16; 33345];
     let mut links = [0u16; 67202];
-    rewrite_with(
+    area::rewrite_with(
         s,
         l,
         out,

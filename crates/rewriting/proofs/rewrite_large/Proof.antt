@@ -1,5 +1,5 @@
 use native.Mathlib.Omega.{arith}
-use Rattle.rewriting.proofs.LayLaws.{fields-few}
+use Rattle.area.proofs.LayLaws.{fields-few}
 use Rattle.derive.proofs.ScratchLaws.{room-of}
 use borrow.Author.Needs.{needs}
 use Rattle.rewriting.proofs.rewrite_large.Statement.{statement}

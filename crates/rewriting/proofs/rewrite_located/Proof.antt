@@ -1,6 +1,5 @@
 use native.Mathlib.Omega.{arith}
-use Rattle.rewriting.proofs.LayLaws.{fields-few}
-use Rattle.rewriting.proofs.LayLaws.{lay-asks}
+use Rattle.area.proofs.LayLaws.{lay-asks, fields-few}
 use borrow.Author.Needs.{needs}
 use Rattle.rewriting.proofs.rewrite_located.Statement.{statement}
 use Rattle.rewriting.proofs.rewrite_located.Tie as tie

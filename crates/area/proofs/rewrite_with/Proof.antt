@@ -1,9 +1,9 @@
 use native.Mathlib.Omega.{arith}
 use Rattle.derive.proofs.ScratchLaws.{lent-start, lent-on, room-kept}
-use Rattle.rewriting.proofs.LayLaws.{lay-asks}
+use Rattle.area.proofs.LayLaws.{lay-asks}
 use borrow.Author.Needs.{needs}
-use Rattle.rewriting.proofs.rewrite_with.Statement.{statement}
-use Rattle.rewriting.proofs.rewrite_with.Tie as tie
+use Rattle.area.proofs.rewrite_with.Statement.{statement}
+use Rattle.area.proofs.rewrite_with.Tie as tie
 
 cast-lay : tie.Need-cast-lay
 cast-lay c = search needs
