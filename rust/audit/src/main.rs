@@ -5,7 +5,7 @@ use std::fs;
 use std::path::{Path, PathBuf};
 use std::process::ExitCode;
 
-use audit::{Homes, Language, Library, axioms, contracts, dependencies, symbols};
+use audit::{Homes, Language, Library, axioms, citations, contracts, dependencies, symbols};
 
 fn main() -> ExitCode {
     let root = Path::new(env!("CARGO_MANIFEST_DIR")).join("../..");
@@ -74,6 +74,9 @@ fn sources(root: &Path) -> Result<Vec<String>, String> {
         for path in ["src", "specs", "proofs"].iter().flat_map(|part| files(&folder.join(part))) {
             let file = path.strip_prefix(root).unwrap_or(&path).display().to_string();
             let text = read(&path)?;
+            if !path.starts_with(folder.join("proofs")) {
+                found.extend(citations(&file, &text));
+            }
             if file.ends_with(".rt") {
                 found.extend(contracts(&file, &text, stated));
                 found.extend(symbols(&file, &text, Language::Source, &homes));

@@ -1,6 +1,6 @@
 //! Each way in which a repository was made to look proved: found, and the honest text beside it not.
 
-use audit::{Homes, Language, Library, axioms, contracts, dependencies, symbols};
+use audit::{Homes, Language, Library, axioms, citations, contracts, dependencies, symbols};
 
 fn homes() -> Homes {
     Homes::read(include_str!("../../../.ci/symbols"))
@@ -64,6 +64,15 @@ fn a_library_that_uses_what_is_assumed() {
         dependencies(crates, |name| name != "listing"),
         ["crates.txt: the library rota uses libc"]
     );
+}
+
+#[test]
+fn a_contract_in_the_words_of_proofs() {
+    let cited =
+        "ghost use lib.ListN.{length};\nghost use Rattle.derivation.proofs.RoleMarks.{marked};\n";
+    assert_eq!(citations("f.rt", cited), ["f.rt:2: words of a contract stand in proofs/"]);
+    assert_eq!(citations("f.antt", "use Rattle.rota.proofs.RowLaws.{row}\n").len(), 1);
+    assert_eq!(citations("f.antt", "use Rattle.rota.specs.Rota.{Rota}\n-- of proofs.\n").len(), 0);
 }
 
 #[test]
