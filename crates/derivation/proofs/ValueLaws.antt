@@ -28,7 +28,7 @@ hours-upto c (h ∷ hs) w = (omega (arith, w .0 .ordered, w .0 .ends), (w .0 .en
 pair-upto : (c low : ℕ) (ps : List Pair) → PairsWell c low ps → Upto c (pairCuts ps)
 unfolding pairCuts
 pair-upto c low [] w = tt
-pair-upto c low (p ∷ ps) w = (omega (arith, w .2), (w .2, pair-upto c _ ps (w .3)))
+pair-upto c low (p ∷ ps) w = (omega (arith, w .0 .ends), (w .0 .ends, pair-upto c _ ps (w .1)))
 
 pairs-upto : (c : ℕ) (hs : List Hours) → All (HoursWell c) hs → Upto c (pairsCuts hs)
 unfolding pairsCuts

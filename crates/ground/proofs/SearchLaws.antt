@@ -112,24 +112,37 @@ module _ (f : ℕ → Bool) where
       (eq-or-lt-of-le (le-of-suc-le-suc l))
 
   -- there is a lowest one exactly when one passes
-  pub lowest-some : (n : ℕ) → anyBelow n f ≡ true → (k : ℕ) × (k < n) × (lowestBelow n f ≡ some k) × (f k ≡ true)
+  pub record Lowest (n : ℕ) : Type 0 where
+    pub number : ℕ
+    pub below : number < n
+    pub is : lowestBelow n f ≡ some number
+    pub passes : f number ≡ true
+
+  pub lowest-some : (n : ℕ) → anyBelow n f ≡ true → Lowest n
   unfolding anyBelow lowestBelow firstOf
   lowest-some zero h = let z : _≡_ {A = ℕ} 0 1 = cc in absurd (omega arith)
   lowest-some (suc n) h = go (anyBelow n f) refl (lowest-some n) h
     where
-      go : (b : Bool) → anyBelow n f ≡ b → (anyBelow n f ≡ true → (k : ℕ) × (k < n) × (lowestBelow n f ≡ some k) × (f k ≡ true)) → (b || f n) ≡ true
-          → (k : ℕ) × (k < suc n) × (firstOf (lowestBelow n f) (pick (f n) (some n) none) ≡ some k) × (f k ≡ true)
+      go : (b : Bool) → anyBelow n f ≡ b → (anyBelow n f ≡ true → Lowest n) → (b || f n) ≡ true → Lowest (suc n)
       go true e before k =
           let r = before e in
-          (r .0, lt-trans (r .1) (le-refl (suc n)), ap (λ (o : Option ℕ). firstOf o (pick (f n) (some n) none)) (r .2), r .3)
-      go false e before k = (n, le-refl (suc n), ap₂ firstOf (lowest-none n (any-no n f e)) (pick-true (f n) (some n) none k), k)
+          unfold lowestBelow in
+          record {
+            number = r .number;
+            below = lt-trans (r .below) (le-refl (suc n));
+            is = ap (λ (o : Option ℕ). firstOf o (pick (f n) (some n) none)) (r .is);
+            passes = r .passes;
+          }
+      go false e before k =
+          unfold lowestBelow in
+          record { number = n; below = le-refl (suc n); is = ap₂ firstOf (lowest-none n (any-no n f e)) (pick-true (f n) (some n) none k); passes = k }
 
   -- what the lowest one is, and that there is none
   pub lowest-no : (n : ℕ) → lowestBelow n f ≡ none → (i : ℕ) → i < n → f i ≡ false
   lowest-no n e i l = not-yes (f i) (λ h. differ (lowest-some n (any-stop f n i l h)))
     where
-      differ : (k : ℕ) × (k < n) × (lowestBelow n f ≡ some k) × (f k ≡ true) → ⊥
-      differ r = let q = r .2 in let z : _≡_ {A = ℕ} 0 1 = cc in omega arith
+      differ : Lowest n → ⊥
+      differ r = let q = r .is in let z : _≡_ {A = ℕ} 0 1 = cc in omega arith
 
   pub lowest-out : (n k : ℕ) → lowestBelow n f ≡ some k → (k < n) × (f k ≡ true) × ((i : ℕ) → i < k → f i ≡ false)
   unfolding lowestBelow firstOf

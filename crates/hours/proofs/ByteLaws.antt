@@ -27,7 +27,7 @@ module _ (c : ℕ) (short : c < 65536) where
   in-pairs : (low : ℕ) (ps : List Pair) → PairsWell c low ps → AllBytes (joined pairBytes ps)
   unfolding joined pairBytes
   in-pairs low [] w = no-bytes
-  in-pairs low (p ∷ ps) w = (in16 (omega (arith, w .2)) then in16 (omega (arith, w .2))) then in-pairs _ ps (w .3)
+  in-pairs low (p ∷ ps) w = (in16 (omega (arith, w .0 .ends)) then in16 (omega (arith, w .0 .ends))) then in-pairs _ ps (w .1)
 
   in-record : (h : Hours) → length (h .pairs) < 65536 → HoursWell c h → AllBytes (hoursBytes h)
   unfolding hoursBytes E

@@ -21,7 +21,7 @@ use Rattle.ground.proofs.SequenceLaws.{listOf-length, listOf-cons, all-listOf, 
 use Rattle.hours.specs.Hours.{Pair, Hours}
 use Rattle.hours.specs.HoursBytes.{pairAt, pairsAt, hoursAt, recordAt, pairsBefore, hoursFrom}
 use Rattle.hours.specs.HoursRefusals.{earliest, pairJudged, hoursJudged, recordJudged}
-use Rattle.hours.specs.HoursWell.{PairsWell, HoursWell, pairsIn}
+use Rattle.hours.specs.HoursWell.{PairWell, PairsWell, HoursWell, pairsIn}
 use Rattle.hours.proofs.JudgeLaws.{HoursFine}
 use Rattle.hours.proofs.WalkLaws.{record-fine}
 
@@ -53,38 +53,31 @@ module _ (s : List ℕ) (from : ℕ) where
       pairsIn-more (hoursFrom s from n) (hoursAt s (recordAt s from n))
       ∙ rw (listOf-length (pairsAt s (recordAt s from n)) (pairAt s (recordAt s from n + 10)), pairs-in n)
 
--- a pair that may start at `low`, for a cycle of c minutes
-pub record PairFine (c low : ℕ) (p : Pair) : Type 0 where
-  pub starts : low ≤ p .offset
-  pub some : 0 < p .length
-  pub ends : p .offset + p .length ≤ c
-
 -- pairs by index, where low k is where pair k may start
 pub pairs-well : (c n : ℕ) (f : ℕ → Pair) (low : ℕ → ℕ) → ((k : ℕ) → low (suc k) ≡ f k .offset + f k .length + 1)
-    → ((k : ℕ) → k < n → PairFine c (low k) (f k)) → PairsWell c (low 0) (listOf n f)
+    → ((k : ℕ) → k < n → PairWell c (low k) (f k)) → PairsWell c (low 0) (listOf n f)
 pairs-well c zero f low up h = unfold listOf in tt
 pairs-well c (suc n) f low up h =
-    let p = h 0 (omega arith) in
     let ps = pairs-well c n (λ k. f (suc k)) (λ k. low (suc k)) (λ k. up (suc k)) (λ k l. h (suc k) (omega arith)) in
-    rw listOf-cons (p .starts, p .some, p .ends, rw (up 0) at ps)
+    rw listOf-cons (h 0 (omega arith), rw (up 0) at ps)
 
 pub pairs-each : (c n : ℕ) (f : ℕ → Pair) (low : ℕ → ℕ) → ((k : ℕ) → low (suc k) ≡ f k .offset + f k .length + 1)
-    → PairsWell c (low 0) (listOf n f) → (k : ℕ) → k < n → PairFine c (low k) (f k)
+    → PairsWell c (low 0) (listOf n f) → (k : ℕ) → k < n → PairWell c (low k) (f k)
 pairs-each c zero f low up w k l = absurd (not-suc-le-zero l)
-pairs-each c (suc n) f low up w zero l = let v = rw listOf-cons at w in record { starts = v .0; some = v .1; ends = v .2 }
+pairs-each c (suc n) f low up w zero l = let v = rw listOf-cons at w in v .0
 pairs-each c (suc n) f low up w (suc k) l =
     let v = rw listOf-cons at w in
-    pairs-each c n (λ k. f (suc k)) (λ k. low (suc k)) (λ k. up (suc k)) (rw (← up 0) at (v .3)) k (le-of-suc-le-suc l)
+    pairs-each c n (λ k. f (suc k)) (λ k. low (suc k)) (λ k. up (suc k)) (rw (← up 0) at (v .1)) k (le-of-suc-le-suc l)
 
 module _ (s : List ℕ) (c : ℕ) where
-  pub pair-fine : (at j : ℕ) → pairJudged s c at j ≡ 0 → PairFine c (earliest s at j) (pairAt s at j)
+  pub pair-fine : (at j : ℕ) → pairJudged s c at j ≡ 0 → PairWell c (earliest s at j) (pairAt s at j)
   unfolding pairJudged
   pair-fine at j h =
       let r = or-no _ _ (refuse-no _ _ h) in
       let q = or-no _ _ (r .0) in
       record { starts = ltb-false _ _ (r .1); some = pos-of _ (q .0); ends = ltb-false _ _ (q .1) }
 
-  pub pair-clear : (at j : ℕ) → PairFine c (earliest s at j) (pairAt s at j) → pairJudged s c at j ≡ 0
+  pub pair-clear : (at j : ℕ) → PairWell c (earliest s at j) (pairAt s at j) → pairJudged s c at j ≡ 0
   unfolding pairJudged refuse
   pair-clear at j p = rw (ne-eqb (pairAt s at j .length) 0 (λ z. omega (arith, p .some)), le-ltb _ _ (p .ends), le-ltb _ _ (p .starts))
 

@@ -5,11 +5,16 @@ use lib.ListN.{length}
 use Rattle.minutes.specs.Minutes.{E}
 use Rattle.hours.specs.Hours.{Pair, Hours}
 
--- each pair starts at `low` or later, and the next later than its end
+-- a pair that may start at `low`
+pub record PairWell (c low : ℕ) (p : Pair) : Type 0 where
+  pub starts : low ≤ p .offset
+  pub some : 0 < p .length
+  pub ends : p .offset + p .length ≤ c
+
+-- each next pair starts later than the end of the one before
 abbrev pub PairsWell : ℕ → ℕ → List Pair → Type 0
 PairsWell c low [] = Unit {0}
-PairsWell c low (p ∷ ps) =
-    (low ≤ p .offset) × (0 < p .length) × (p .offset + p .length ≤ c) × PairsWell c (p .offset + p .length + 1) ps
+PairsWell c low (p ∷ ps) = PairWell c low p × PairsWell c (p .offset + p .length + 1) ps
 
 pub record HoursWell (c : ℕ) (h : Hours) : Type 0 where
   pub ordered : h .begin < h .end

@@ -11,5 +11,5 @@ pub yes-is : (n : ℕ) (f : ℕ → Bool) → isYes (lowestBelow n f) ≡ anyBel
 yes-is n f = go (anyBelow n f) refl
   where
     go : (b : Bool) → anyBelow n f ≡ b → isYes (lowestBelow n f) ≡ b
-    go true e = ap isYes (lowest-some f n e .2)
+    go true e = ap isYes (lowest-some f n e .is)
     go false e = ap isYes (lowest-none f n (any-no n f e))

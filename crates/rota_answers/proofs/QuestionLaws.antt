@@ -134,8 +134,14 @@ module _ (s : List ℕ) (t set : ℕ) (acc : rotaJudged s ≡ 0) (early : t < E)
       ∙ yes-is (rolesOf s) (through (rotaOf s) u p t)
       ∙ any-stop (through (rotaOf s) u p t) (rolesOf s) r l (and-all (enabled (rotaOf s) r t) (hasUser (rotaOf s) u r t) (hasPermission (rotaOf s) p r t) a b c)
 
-  may-by : (u p : ℕ) → isYes (answer (rotaOf s) u p t) ≡ true
-      → (r : ℕ) × (r < rolesOf s) × (enabled (rotaOf s) r t ≡ true) × (hasUser (rotaOf s) u r t ≡ true) × (hasPermission (rotaOf s) p r t ≡ true)
+  record May (u p : ℕ) : Type 0 where
+    role : ℕ
+    below : role < rolesOf s
+    on : enabled (rotaOf s) role t ≡ true
+    user : hasUser (rotaOf s) u role t ≡ true
+    permission : hasPermission (rotaOf s) p role t ≡ true
+
+  may-by : (u p : ℕ) → isYes (answer (rotaOf s) u p t) ≡ true → May u p
   unfolding answer through rotaOf
   may-by u p e =
       let z = any-out (rolesOf s) (through (rotaOf s) u p t)
@@ -143,7 +149,7 @@ module _ (s : List ℕ) (t set : ℕ) (acc : rotaJudged s ≡ 0) (early : t < E)
       ∙ ap isYes (ap (λ (n : ℕ). lowestBelow n (through (rotaOf s) u p t)) (sym (listOf-length (rolesOf s) (roleRef s)))) ∙ e) in
       let r = z .0 in
       let a = and-three (enabled (rotaOf s) r t) (hasUser (rotaOf s) u r t) (hasPermission (rotaOf s) p r t) (z .2) in
-      (r, z .1, a .0, a .1, a .2)
+      record { role = r; below = z .1; on = a .0; user = a .1; permission = a .2 }
 
   -- a row of the users that gives a live role to u, and the other way round
   holds-by : (u k : ℕ) → k < userRowsOf s → (has live (roleU k) && inU k && eqb (numberU k) u) ≡ true → holdsAny (policyOf (rotaOf s)) t u ≡ true
@@ -172,16 +178,16 @@ module _ (s : List ℕ) (t set : ℕ) (acc : rotaJudged s ≡ 0) (early : t < E)
       let q = any-out (permissionsOf s) (λ q. isYes (answer (rotaOf s) u q t)) e in
       let p = q .0 in
       let z = may-by u p (q .2) in
-      let r = z .0 in
-      let m = any-out (userRowsOf s) (λ i. eqb (numberU i) u && inU i && eqb (roleU i) r) (user-is u r user-rows ∙ z .3) in
-      let n = any-out (permissionRowsOf s) (λ i. eqb (numberP i) p && inP i && eqb (roleP i) r) (permission-is p r permission-rows ∙ z .4) in
+      let r = z .role in
+      let m = any-out (userRowsOf s) (λ i. eqb (numberU i) u && inU i && eqb (roleU i) r) (user-is u r user-rows ∙ z .user) in
+      let n = any-out (permissionRowsOf s) (λ i. eqb (numberP i) p && inP i && eqb (roleP i) r) (permission-is p r permission-rows ∙ z .permission) in
       let k = m .0 in
       let l = n .0 in
       let a = and-three (eqb (numberU k) u) (inU k) (eqb (roleU k) r) (m .2) in
       let b = and-three (eqb (numberP l) p) (inP l) (eqb (roleP l) r) (n .2) in
       let lives : has live (roleU k) ≡ true
-      = ap (has live) (eqb-true (roleU k) r (a .2)) ∙ has-live r (z .1)
-      ∙ and-both (enabled (rotaOf s) r t) _ (z .2)
+      = ap (has live) (eqb-true (roleU k) r (a .2)) ∙ has-live r (z .below)
+      ∙ and-both (enabled (rotaOf s) r t) _ (z .on)
       (any-stop (λ i. inP i && eqb (roleP i) r) (permissionRowsOf s) l (n .1) (and-both (inP l) (eqb (roleP l) r) (b .1) (b .2))) in
       any-stop (λ i. has live (roleU i) && inU i && eqb (numberU i) u) (userRowsOf s) k (m .1) (and-all (has live (roleU k)) (inU k) (eqb (numberU k) u) lives (a .1) (a .0))
 

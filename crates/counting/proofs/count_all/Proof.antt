@@ -1,3 +1,4 @@
+-- Counts so far are those of the roles so far; where they exceed the room the whole table does too, since it only grows.
 use native.Mathlib.Omega.{arith}
 use mathlib.Core.Path.{refl, _∙_}
 use Prim.Native.Nat.{_-_}

@@ -1,3 +1,4 @@
+-- Entries and marks so far are those of the fields so far; one field more adds its own, and what is found stands where the definition has it.
 use native.Mathlib.Omega.{arith}
 use mathlib.Core.Path.{_≡_, refl, _∙_}
 use mathlib.Core.Logic.{⊎-elim}

@@ -1,3 +1,4 @@
+-- A field whose slots miss the role's is not kept, so that two empty sets stand for it; else the unions are the role's own.
 use native.Mathlib.Omega.{arith}
 use mathlib.Core.Path.{sym, _∙_, ap}
 use Rattle.bitset.specs.Sets.{intersection}

@@ -1,3 +1,4 @@
+-- The slots below `next` that are in use are in the union, and the others give nothing.
 use native.Mathlib.Omega.{arith}
 use mathlib.Core.Path.{_≡_, ap, _∙_}
 use Prim.Native.Nat.{_-_, _≤_}

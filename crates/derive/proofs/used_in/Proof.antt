@@ -1,3 +1,4 @@
+-- The slots below k whose sets are not empty are gathered.
 use native.Mathlib.Omega.{arith}
 use mathlib.Core.Path.{_≡_, refl, _∙_}
 use mathlib.Core.Logic.{⊎-elim}

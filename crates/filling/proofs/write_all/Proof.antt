@@ -1,3 +1,4 @@
+-- What is left to write of entries and rows, written from here, is the whole: a role's entries and rows come off the front of each.
 use native.Mathlib.Omega.{arith}
 use lib.ListN.{length}
 use mathlib.Core.Path.{refl, ap}

@@ -1,3 +1,4 @@
+-- The masks so far are those of the fields of the eras so far.
 use borrow.Author.Needs.{needs}
 use Prim.Native.Nat.{_-_}
 use mathlib.Core.Path.{_≡_, refl, _∙_}

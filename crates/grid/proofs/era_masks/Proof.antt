@@ -1,3 +1,4 @@
+-- The masks so far are those of the era's fields so far, behind the ones that were there.
 use borrow.Author.Needs.{needs}
 use Prim.Native.Nat.{_+_, _-_, _≤_}
 use mathlib.Core.Path.{_≡_, refl, _∙_}

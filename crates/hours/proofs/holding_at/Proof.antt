@@ -1,3 +1,4 @@
+-- The records so far that hold at the minute are gathered.
 use mathlib.Core.Path.{_∙_}
 use borrow.Author.Needs.{needs}
 use Rattle.hours.specs.Hours.{holds}

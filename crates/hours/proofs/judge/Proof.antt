@@ -1,3 +1,4 @@
+-- Each test of the code is the next rule of the record, in order.
 use Rattle.hours.proofs.PairLaws.{pairs-refuse, pairs-pass}
 use Rattle.hours.proofs.JudgeLaws.{cut-off, disordered, too-late, no-pair, too-many, pairs-cut, by-pairs}
 use Rattle.minutes.specs.Minutes.{E}

@@ -1,3 +1,4 @@
+-- The records so far are not refused, and their pairs are counted; the first that is refused decides.
 use borrow.Author.Needs.{needs}
 use Rattle.hours.proofs.WalkLaws.{Walked, walked-none, walked-stop, walked-more, walked-all, here-fine, pairs-here}
 use Rattle.hours.specs.Answers.{hoursGiven}

@@ -1,3 +1,4 @@
+-- The pairs so far are not refused, and the next may start later than the last end.
 use native.Mathlib.Omega.{arith}
 use borrow.Author.Needs.{needs}
 use Rattle.hours.proofs.PairLaws.{pair-bad, pair-good, earliest-more, earliest-none}

@@ -1,3 +1,4 @@
+-- The walk stands where the turns so far lead; each turn takes a member away, so that there are no more turns than members.
 use Prim.Native.Nat.{_+_, _-_}
 use native.Mathlib.Omega.{arith}
 use borrow.Author.Needs.{needs}

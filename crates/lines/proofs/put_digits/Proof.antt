@@ -1,3 +1,4 @@
+-- The last digits are stored and the number is divided; what is left to store are the digits of what is left.
 use Rattle.lines.proofs.DigitLaws.{digit-turn, digits-none}
 use Rattle.lines.specs.Lines.{digits}
 use borrow.Author.Needs.{needs}

@@ -1,3 +1,4 @@
+-- The bytes so far are the word's.
 use Rattle.lines.proofs.PutLaws.{word-turn, word-put}
 use borrow.Author.Needs.{needs}
 use lib.Seq.{sets}

@@ -1,3 +1,4 @@
+-- Too long an input is 9; else the rewriting decides, and its table is read back from the area.
 use mathlib.Core.Path.{refl, sym, ap, _∙_}
 use native.Mathlib.Omega.{arith}
 use Rattle.area.specs.Answers.{writtenGiven}

@@ -1,3 +1,4 @@
+-- The five fields stand at their places in the row's bytes.
 use Rattle.lines.proofs.PutLaws.{put-same}
 use Rattle.printout.proofs.TextLaws.{row-is}
 use native.Mathlib.Omega.{arith}

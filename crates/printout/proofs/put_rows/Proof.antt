@@ -1,3 +1,4 @@
+-- The text so far is that of the rows so far.
 use Rattle.ground.specs.Sequence.{listOf, joined}
 use Rattle.table.specs.TableBytes.{derivedOf, rowOf}
 use Rattle.lines.specs.Written.{Put}

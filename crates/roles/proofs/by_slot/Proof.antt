@@ -1,3 +1,4 @@
+-- Each slot has the numbers of the role's rows so far with those hours.
 use Rattle.roles.proofs.SlotLaws.{slot-at}
 use native.Mathlib.Omega.{arith}
 use mathlib.Core.Path.{_≡_, ap, _∙_}

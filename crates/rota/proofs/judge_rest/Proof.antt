@@ -1,3 +1,4 @@
+-- The length, the role bytes and the two kinds of rows are judged in 01's order; counts are those of the header.
 use Rattle.rota.proofs.ReadLaws.{rows-as, rest-length, rest-roles, rest-users, rest-permissions}
 use Rattle.rota.proofs.RotaFine.{header-fine}
 use Rattle.rota.specs.RotaRefusals.{roleJudged}

@@ -1,3 +1,4 @@
+-- No role byte so far dangles.
 use borrow.Author.Needs.{needs}
 use Rattle.rota.proofs.RowLaws.{role-judged}
 use Rattle.rota.specs.RotaRefusals.{roleJudged}

@@ -1,3 +1,4 @@
+-- The header, the records and the rest are judged in order; places follow from where the records end.
 use Rattle.rota.proofs.ReadLaws.{by-header, by-records, by-rest, accepted}
 use Rattle.rota.proofs.CountsLaws.{counts-are, measured, layout-by, records-as, records-end}
 use Rattle.rota.proofs.RotaFine.{header-fine}

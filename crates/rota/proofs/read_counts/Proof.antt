@@ -1,3 +1,4 @@
+-- Each count is the field at its place.
 use Rattle.rota.proofs.CountsLaws.{counts-by}
 use borrow.Author.Needs.{needs}
 use Rattle.rota.proofs.read_counts.Statement.{statement}

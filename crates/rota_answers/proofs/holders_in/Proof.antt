@@ -1,3 +1,4 @@
+-- Enabled roles that have a permission give their users.
 use Rattle.rota.proofs.LocatedLaws.{counted, fine}
 use Rattle.rota_answers.proofs.AskedLaws.{records-fine, few-hours, some-cycle, roles-fine, permissions-fine, users-fine-all, holders-as}
 use borrow.Author.Needs.{needs}

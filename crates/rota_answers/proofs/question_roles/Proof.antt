@@ -1,3 +1,4 @@
+-- The roles are those enabled, the user's and the permission's.
 use Rattle.rota.proofs.LocatedLaws.{counted, fine}
 use Rattle.rota_answers.proofs.AskedLaws.{few-hours, roles-fine, users-fine, permissions-fine, question-as}
 use borrow.Author.Needs.{needs}

@@ -1,3 +1,4 @@
+-- The roles that the rows so far give are gathered.
 use borrow.Author.Needs.{needs}
 use Rattle.rota_answers.proofs.GatherRows.{roleAt, row-within, row-refers}
 use Rattle.rota_answers.specs.Gathered.{rolesAssigned, rowIn}

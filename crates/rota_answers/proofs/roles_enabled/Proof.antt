@@ -1,3 +1,4 @@
+-- The roles so far whose hours hold are gathered.
 use borrow.Author.Needs.{needs}
 use Rattle.rota_answers.proofs.GatherRows.{role-refers, role-tested}
 use Rattle.rota_answers.specs.Gathered.{rolesEnabled}

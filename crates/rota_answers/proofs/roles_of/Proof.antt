@@ -1,3 +1,4 @@
+-- The roles that the rows so far give to the number are gathered.
 use borrow.Author.Needs.{needs}
 use Rattle.rota_answers.proofs.GatherRows.{ofNumber, roleAt, row-within, row-refers}
 use Rattle.rota_answers.specs.Gathered.{rolesOfNumber}

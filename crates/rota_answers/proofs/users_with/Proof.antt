@@ -1,3 +1,4 @@
+-- The users to whom the rows so far give one of the roles are gathered.
 use borrow.Author.Needs.{needs}
 use Rattle.rota_answers.proofs.GatherRows.{withRole, numberAt, row-within, row-refers}
 use Rattle.rota_answers.specs.Gathered.{usersWith}

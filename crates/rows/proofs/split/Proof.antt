@@ -1,3 +1,4 @@
+-- The test holds below the low end and fails from the high end on; the middle goes to one of them.
 use mathlib.Core.Path.{sym, _∙_}
 use Prim.Native.Nat.{_-_}
 use native.Mathlib.Omega.{arith}

@@ -1,3 +1,4 @@
+-- Whether a byte so far lies in its range.
 use borrow.Author.Needs.{needs}
 use native.Mathlib.Omega.{arith}
 use native.Mathlib.Nat.{le-antisymm}

@@ -1,3 +1,4 @@
+-- Blocks of sixteen rows, and the rows left over, are all rows.
 use mathlib.Core.Path.{sym, _∙_}
 use native.Mathlib.Omega.{arith}
 use Rattle.ground.proofs.BoolLaws.{or-left, or-skip}

@@ -1,3 +1,4 @@
+-- Each case of the answer is told as its step says, with the state that it carries.
 use mathlib.Core.Path.{_∙_}
 use borrow.Author.Needs.{needs}
 use Rattle.service.specs.Answers.{askedStep}

@@ -1,3 +1,4 @@
+-- Each test of the code is a part of the entry's rule.
 use borrow.Author.Needs.{needs}
 use Rattle.ground.proofs.JudgementLaws.{tests}
 use Rattle.table.specs.TableRefusals.{entryBad}

@@ -1,3 +1,4 @@
+-- The entries so far are not refused, and the source before is the last one's.
 use Prim.Native.Nat.{_≤_, _-_}
 use mathlib.Core.Path.{_≡_, sym}
 use native.Mathlib.Nat.{le-antisymm}

@@ -1,3 +1,4 @@
+-- The rows so far are not refused, and the row before is at hand with its source.
 use Prim.Native.Nat.{_-_}
 use mathlib.Core.Path.{refl, sym, _∙_}
 use native.Mathlib.Nat.{le-antisymm}

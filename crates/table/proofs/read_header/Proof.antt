@@ -1,3 +1,4 @@
+-- Each test of the code is the next rule of the header, in order.
 use mathlib.Core.Path.{ap, _∙_}
 use native.Mathlib.Omega.{arith}
 use borrow.Author.Needs.{needs}

@@ -1,3 +1,4 @@
+-- No row so far grants; rows go by source role, so the first that does has the lowest.
 use Prim.Native.Nat.{_≤_, _-_, _+_, _*_}
 use mathlib.Core.Bool.{false}
 use mathlib.Core.Path.{_≡_, sym, _∙_}

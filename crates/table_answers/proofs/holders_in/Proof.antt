@@ -1,3 +1,4 @@
+-- The users of the rows so far that cover the minute are gathered.
 use Prim.Native.Nat.{_≤_, _-_}
 use mathlib.Core.Path.{_≡_}
 use native.Mathlib.Omega.{arith}

@@ -1,3 +1,4 @@
+-- What is left of the era's rows, written from here, is the whole.
 use Rattle.writing.proofs.FieldLaws.{cell-room, cell-written}
 use native.Mathlib.Omega.{arith}
 use mathlib.Core.Path.{refl}

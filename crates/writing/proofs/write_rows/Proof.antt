@@ -1,3 +1,4 @@
+-- What is left of the role's rows, written from here, is the whole.
 use native.Mathlib.Omega.{arith}
 use mathlib.Core.Path.{_≡_, refl}
 use Prim.Native.Nat.{_*_, _-_, _≤_}
