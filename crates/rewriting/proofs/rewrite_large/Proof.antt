@@ -24,10 +24,10 @@ rewrite-with-requires : tie.Need-rewrite-with-requires
 rewrite-with-requires c κs = let p = c .before .before .before .before .before .before .before .before .pre in (p .0, p .1, room-of (fields-few (p .1)) (fields-few (p .1)) (omega arith) (omega arith) (omega arith) (omega arith) (omega arith))
 
 same-length : tie.Need-same-length
-same-length c = search needs
+same-length c = c .before .before .before .before .before .before .before .rewrite-with .kept .1 .1 .0
 
 returns : tie.Need-returns
-returns c = search needs
+returns c = c .before .before .before .before .before .before .before .rewrite-with .ensures
 
 pub rewrite-large-spec : {M : Type 1} → statement M
 rewrite-large-spec =

@@ -17,28 +17,28 @@ rewrite-small-requires : tie.Need-rewrite-small-requires
 rewrite-small-requires c κs = (c .before .before .before .before .before .before .before .before .before .before .before .pre, c .before .before .before .before .divide .ensures, c .before .before .before .if1 .taken)
 
 same-length : tie.Need-same-length
-same-length c = search needs
+same-length c = c .before .before .rewrite-small .kept .1 .1 .0
 
 returns : tie.Need-returns
-returns c = search needs
+returns c = c .before .before .rewrite-small .ensures
 
 rewrite-middle-requires : tie.Need-rewrite-middle-requires
 rewrite-middle-requires c κs = (c .before .before .before .before .before .before .before .before .before .before .before .before .pre, c .before .before .before .before .before .divide .ensures, c .before .before .before .if2 .taken)
 
 same-length-2 : tie.Need-same-length-2
-same-length-2 c = search needs
+same-length-2 c = c .before .before .rewrite-middle .kept .1 .1 .0
 
 returns-2 : tie.Need-returns-2
-returns-2 c = search needs
+returns-2 c = c .before .before .rewrite-middle .ensures
 
 rewrite-large-requires : tie.Need-rewrite-large-requires
 rewrite-large-requires c κs = (c .before .before .before .before .before .before .before .before .before .before .before .before .pre, c .before .before .before .before .before .divide .ensures)
 
 same-length-3 : tie.Need-same-length-3
-same-length-3 c = search needs
+same-length-3 c = c .before .before .rewrite-large .kept .1 .1 .0
 
 returns-3 : tie.Need-returns-3
-returns-3 c = search needs
+returns-3 c = c .before .before .rewrite-large .ensures
 
 pub rewrite-located-spec : {M : Type 1} → statement M
 rewrite-located-spec =
