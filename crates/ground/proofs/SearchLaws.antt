@@ -1,7 +1,6 @@
 -- Laws of bounded search, one for each way that a searching loop can go, and what a search that ended says.
 --     any-none, any-more, any-stop    the loop over `anyBelow`
 --     any-turn, any-same              one turn, whatever the test says; tests that agree below the bound
---     any-found, any-kept             the loop that does not stop
 --     any-split, any-blocks           a search in two parts, and block by block
 --     any-out, any-no, any-none-of    a number that passes; none does
 --     list-any                        some element of a list given by index
@@ -43,13 +42,6 @@ module _ (f : ℕ → Bool) where
   pub any-turn : (i : ℕ) → anyBelow (i + 1) f ≡ (anyBelow i f || f i)
   unfolding anyBelow
   any-turn i = rw (add-one i)
-
-  -- a loop that gathers without stopping: found at i, or nothing new there
-  pub any-found : (i : ℕ) (b : Bool) → b ≡ true → f i ≡ true → b ≡ anyBelow (i + 1) f
-  any-found i b e h = e ∙ sym (any-stop (i + 1) i (omega arith) h)
-
-  pub any-kept : (i : ℕ) (a b : Bool) → a ≡ anyBelow i f → b ≡ a → f i ≡ false → b ≡ anyBelow (i + 1) f
-  any-kept i a b e k h = k ∙ e ∙ sym (any-turn i ∙ ap (λ (c : Bool). anyBelow i f || c) h ∙ or-false (anyBelow i f))
 
 pub any-same : (n : ℕ) (f g : ℕ → Bool) → ((i : ℕ) → i < n → f i ≡ g i) → anyBelow n f ≡ anyBelow n g
 unfolding anyBelow

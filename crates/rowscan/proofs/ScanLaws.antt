@@ -1,23 +1,39 @@
 -- Rows in blocks of sixteen: byte j of a block lies in its range exactly when it is one of the three of row j / 3 that are out of range, so that some
 -- byte of the block does exactly when some row has one.
 --     blank, filled, laid     a loop that lays a pattern: its start, a turn, its end
+--     joins, joined-some      a loop that joins 0 or 1 for each byte
 --     rows-split              all rows, as whole blocks and the rows left over
 -- Assumes nothing.
 use Prim.Native.Nat.{ℕ, suc, _+_, _*_, _-_, _≤_, _<_}
 use mathlib.Core.Path.{_≡_, refl, sym, ap, ap₂, _∙_}
 use mathlib.Core.Logic.{⊎-elim}
-use mathlib.Core.Bool.{Bool, true, _&&_, _||_, and-true}
+use mathlib.Core.Bool.{Bool, true, false, not, _&&_, _||_, and-true}
 use mathlib.Core.List.{List}
 use native.Mathlib.Omega.{arith}
 use borrow.Author.Tests.{le-leb}
-use lib.Dec.{leb}
+use lib.Bits.{bitOr}
+use lib.Dec.{leb, eqb}
 use lib.ListN.{length, getD, set, length-set}
 use lib.Seq.{getD-set-same, getD-set-other}
-use Rattle.ground.specs.Search.{anyBelow}
+use Rattle.ground.specs.Search.{anyBelow, one}
 use Rattle.ground.proofs.BoolLaws.{lt-or-le}
-use Rattle.ground.proofs.SearchLaws.{any-same, any-split, any-blocks}
+use Rattle.ground.proofs.SearchLaws.{any-turn, any-same, any-split, any-blocks}
 use Rattle.endian.specs.Numbers.{Bytes, u8At}
 use Rattle.rowscan.specs.Rows.{rowOut, byteOut, Pattern}
+
+-- 0 or 1 for each byte, joined: 1 where one is
+both-ones : (a b : Bool) → bitOr (one a) (one b) ≡ one (a || b)
+both-ones true true = refl
+both-ones true false = refl
+both-ones false true = refl
+both-ones false false = refl
+
+pub joins : (f : ℕ → Bool) (j x y : ℕ) → x ≡ one (anyBelow j f) → y ≡ one (f j) → bitOr x y ≡ one (anyBelow (j + 1) f)
+joins f j x y e h = ap₂ bitOr e h ∙ both-ones (anyBelow j f) (f j) ∙ ap one (sym (any-turn f j))
+
+pub joined-some : (b : Bool) (x : ℕ) → x ≡ one b → not (eqb x 0) ≡ b
+joined-some true x e = rw e refl
+joined-some false x e = rw e refl
 
 -- the first i threes are laid, and every third byte is c
 pub record Filled (a b c i : ℕ) (p : List ℕ) : Type 0 where

@@ -5,7 +5,7 @@ ghost use Prim.Native.Nat.{_+_, _*_, _≤_, _<_};
 ghost use mathlib.Core.Bool.{_&&_};
 ghost use lib.Dec.{leb};
 ghost use lib.ListN.{length};
-ghost use Rattle.ground.specs.Search.{anyBelow};
+ghost use Rattle.ground.specs.Search.{anyBelow, one};
 ghost use Rattle.rowscan.specs.Rows.{rowOut, byteOut, Pattern};
 
 // a, b and c, sixteen times.
@@ -22,11 +22,17 @@ fn pattern(a: u8, b: u8, c: u8) -> [u8; 48]
     p
 }
 
-// low ≤ x ≤ high
-fn between(low: u8, high: u8, x: u8) -> bool
-    ensures { λ r. ⌜ r ≡ (leb low x && leb x high) ⌝ }
+// 1 where low ≤ x ≤ high, else 0. A number and not a test: the compiler makes vector code of a loop that joins numbers.
+fn between(low: u8, high: u8, x: u8) -> u8
+    ensures { λ r. ⌜ r ≡ one (leb low x && leb x high) ⌝ }
 {
-    if x < low { false } else { x <= high }
+    if x < low {
+        return 0;
+    }
+    if high < x {
+        return 0;
+    }
+    1
 }
 
 // Whether one of the 48 bytes from `at` on lies in its range.
@@ -34,15 +40,13 @@ fn block_out(s: &[u8], at: usize, low: &[u8; 48], high: &[u8; 48]) -> bool
     requires { ⌜ at + 48 ≤ length (now s) ⌝ }
     ensures { λ r. ⌜ r ≡ anyBelow 48 (byteOut (now (low .entry)) (now (high .entry)) (now (s .entry)) at) ⌝ }
 {
-    let mut out = false;
+    let mut out = 0u8;
     let mut j = 0;
     while j < 48 {
-        if between(low[j], high[j], s[at + j]) {
-            out = true;
-        }
+        out = out | between(low[j], high[j], s[at + j]);
         j += 1;
     }
-    out
+    out != 0
 }
 
 // The same of n blocks.
@@ -71,7 +75,7 @@ fn row_out(s: &[u8], at: usize, top: u8, roles: u8, hours: u8) -> bool
     if roles <= s[at + 1] {
         return true;
     }
-    between(hours, 254, s[at + 2])
+    between(hours, 254, s[at + 2]) != 0
 }
 
 // Whether one of the n rows from `at` on is, looked at one by one.

@@ -2,6 +2,7 @@ use borrow.Author.Needs.{needs}
 use borrow.Author.Tests.{le-leb, lt-leb}
 use mathlib.Core.Path.{refl}
 use Rattle.rowscan.specs.Rows.{rowOut}
+use Rattle.rowscan.proofs.ScanLaws.{joined-some}
 use Rattle.rowscan.proofs.row_out.Statement.{statement}
 use Rattle.rowscan.proofs.row_out.Tie as tie
 
@@ -33,7 +34,7 @@ between-requires c κs = search needs
 
 returns-3 : tie.Need-returns-3
 unfolding rowOut
-returns-3 c = rw (lt-leb _ _ (c .before .before .before .before .if1 .left), lt-leb _ _ (c .before .before .if2 .left)) (c .between .ensures)
+returns-3 c = rw (lt-leb _ _ (c .before .before .before .before .if1 .left), lt-leb _ _ (c .before .before .if2 .left)) (joined-some _ _ (c .between .ensures))
 
 pub row-out-spec : {M : Type 1} → statement M
 row-out-spec =
