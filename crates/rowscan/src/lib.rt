@@ -99,6 +99,9 @@ pub fn rows_out(s: &[u8], at: usize, n: usize, top: u8, roles: u8, hours: u8) ->
     requires { ⌜ at + 3 * n ≤ length (now s) ⌝ }
     ensures { λ r. ⌜ r ≡ anyBelow n (λ k. rowOut top roles hours (now (s .entry)) (at + 3 * k)) ⌝ }
 {
+    if n < 16 {
+        return rest_out(s, at, n, top, roles, hours);
+    }
     let blocks = n / 16;
     let low = pattern(top, roles, hours);
     let high = pattern(255, 255, 254);
