@@ -125,7 +125,13 @@ module _ (d : ℕ) (us ps : List ℕ) (u p : ℕ) (hu : d < length us) (hp : d <
   unfolding Comes
   comes-kept r z f zero h c = c
   comes-kept r z f (suc s) h c =
-      (c .0, c .1, comes-kept r z f s (c .0) (c .2), link-kept (c .0) (c .1) (comes-below x r z f s (c .0) (c .2)) (c .3), c .4)
+      record {
+        from = c .from;
+        pair = c .pair;
+        came = comes-kept r z f s (c .from) (c .came);
+        link = link-kept (c .from) (c .pair) (comes-below x r z f s (c .from) (c .came)) (c .link);
+        to = c .to;
+      }
 
   old-leads : (k : ℕ) → k < d → Reached links′ a b (getD us k 0) (getD ps k 0) k
   old-leads k h =

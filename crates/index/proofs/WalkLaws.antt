@@ -37,17 +37,17 @@ module _ (links : List ℕ) (r : ℕ) (f : ℕ → Bool) where
 
   pub comes-on : (s g : ℕ) → Comes links r f s g → (h k : ℕ) → getD links g 0 ≡ k + 1 → h ≡ childAt k (f s) → Comes links r f (suc s) h
   unfolding Comes
-  comes-on s g c h k l e = (g, k, c, l, e)
+  comes-on s g c h k l e = record { from = g; pair = k; came = c; link = l; to = e }
 
   -- to one place
   comes-same : (s g h : ℕ) → Comes links r f s g → Comes links r f s h → g ≡ h
   unfolding Comes
   comes-same zero g h c w = c ∙ sym w
   comes-same (suc s) g h c w =
-      let q : c .0 ≡ w .0 = comes-same s (c .0) (w .0) (c .2) (w .2) in
-      let z : c .1 + 1 ≡ w .1 + 1 = sym (c .3) ∙ ap (λ (j : ℕ). getD links j 0) q ∙ w .3 in
-      let y : c .1 ≡ w .1 = omega arith in
-      c .4 ∙ ap (λ (j : ℕ). childAt j (f s)) y ∙ sym (w .4)
+      let q : c .from ≡ w .from = comes-same s (c .from) (w .from) (c .came) (w .came) in
+      let z : c .pair + 1 ≡ w .pair + 1 = sym (c .link) ∙ ap (λ (j : ℕ). getD links j 0) q ∙ w .link in
+      let y : c .pair ≡ w .pair = omega arith in
+      c .to ∙ ap (λ (j : ℕ). childAt j (f s)) y ∙ sym (w .to)
 
   -- by links that lead on
   comes-through : (t h i : ℕ) → Comes links r f t h → getD links h 0 ≡ i + 1 → (s g : ℕ) → s ≤ t → Comes links r f s g → 0 < getD links g 0
@@ -56,7 +56,7 @@ module _ (links : List ℕ) (r : ℕ) (f : ℕ → Bool) where
       let z : s ≡ 0 = omega arith in
       let y : g ≡ h = comes-same 0 g h (subst (λ (j : ℕ). Comes links r f j g) z w) c in
       omega (arith, ap (λ (j : ℕ). getD links j 0) y)
-  comes-through (suc t) h i c l s g q w = go (eqb s (suc t)) refl (λ (z : s ≤ t). comes-through t (c .0) (c .1) (c .2) (c .3) s g z w)
+  comes-through (suc t) h i c l s g q w = go (eqb s (suc t)) refl (λ (z : s ≤ t). comes-through t (c .from) (c .pair) (c .came) (c .link) s g z w)
     where
       go : (b : Bool) → eqb s (suc t) ≡ b → (s ≤ t → 0 < getD links g 0) → 0 < getD links g 0
       go true e ih =
@@ -68,19 +68,19 @@ module _ {d : ℕ} {us ps links : List ℕ} {a b : ℕ} (x : Indexed d us ps lin
   pub comes-below : (r : ℕ) → r < 512 → (f : ℕ → Bool) (s h : ℕ) → Comes links r f s h → h < 512 + 2 * d
   unfolding Comes
   comes-below r z f zero h c = omega arith
-  comes-below r z f (suc s) h c = omega (arith, x .below (c .0) (comes-below r z f s (c .0) (c .2)), c .3, c .4, one-small (f s))
+  comes-below r z f (suc s) h c = omega (arith, x .below (c .from) (comes-below r z f s (c .from) (c .came)), c .link, c .to, one-small (f s))
 
   -- there is one way to a place
   one-way : (q r : ℕ) → q < 512 → r < 512 → (f g : ℕ → Bool) (s t h : ℕ) → Comes links q f s h → Comes links r g t h → (s ≡ t) × ((i : ℕ) → i < s → f i ≡ g i)
   unfolding Comes
   one-way q r hq hr f g zero zero h c w = (refl, λ i l. absurd (omega arith))
-  one-way q r hq hr f g zero (suc t) h c w = absurd (omega (arith, w .4))
-  one-way q r hq hr f g (suc s) zero h c w = absurd (omega (arith, c .4))
+  one-way q r hq hr f g zero (suc t) h c w = absurd (omega (arith, w .to))
+  one-way q r hq hr f g (suc s) zero h c w = absurd (omega (arith, c .to))
   one-way q r hq hr f g (suc s) (suc t) h c w =
-      let o = side-of (c .1) (w .1) (f s) (g t) (sym (c .4) ∙ w .4) in
-      let e : c .0 ≡ w .0
-      = x .single (c .0) (w .0) (c .1) (comes-below q hq f s (c .0) (c .2)) (comes-below r hr g t (w .0) (w .2)) (c .3) (w .3 ∙ ap (λ (j : ℕ). j + 1) (sym (o .0))) in
-      let i = one-way q r hq hr f g s t (c .0) (c .2) (subst (Comes links r g t) (sym e) (w .2)) in (
+      let o = side-of (c .pair) (w .pair) (f s) (g t) (sym (c .to) ∙ w .to) in
+      let e : c .from ≡ w .from
+      = x .single (c .from) (w .from) (c .pair) (comes-below q hq f s (c .from) (c .came)) (comes-below r hr g t (w .from) (w .came)) (c .link) (w .link ∙ ap (λ (j : ℕ). j + 1) (sym (o .0))) in
+      let i = one-way q r hq hr f g s t (c .from) (c .came) (subst (Comes links r g t) (sym e) (w .came)) in (
         ap suc (i .0),
         λ j l. below-more (λ (n : ℕ). f n ≡ g n) s (i .1) (o .1 ∙ ap g (sym (i .0))) j (omega arith),
       )

@@ -38,10 +38,18 @@ bucketOf u p = ((u % 8191) * 31 + p % 8191) % 512
 abbrev pub childAt : ℕ → Bool → ℕ
 childAt k side = 512 + 2 * k + one side
 
--- a walk from place r with the turns f comes to place h after s of them, where each link on the way has one more than a pair
+-- one turn more of a walk that came to a place: the link there has one more than a pair, and the walk goes to a side of it
+pub record Onward (Came : ℕ → Type 0) (links : List ℕ) (side : Bool) (h : ℕ) : Type 0 where
+  pub from : ℕ
+  pub pair : ℕ
+  pub came : Came from
+  pub link : getD links from 0 ≡ pair + 1
+  pub to : h ≡ childAt pair side
+
+-- a walk from place r with the turns f comes to place h after s of them
 unfoldable pub Comes : List ℕ → ℕ → (ℕ → Bool) → ℕ → ℕ → Type 0
 Comes links r f zero h = h ≡ r
-Comes links r f (suc s) h = (g : ℕ) × (k : ℕ) × Comes links r f s g × (getD links g 0 ≡ k + 1) × (h ≡ childAt k (f s))
+Comes links r f (suc s) h = Onward (Comes links r f s) links (f s) h
 
 -- a set of 64 has only members of a
 pub record Within (x a : ℕ) : Type 0 where
