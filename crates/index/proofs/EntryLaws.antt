@@ -1,56 +1,69 @@
 -- Pairs of sets as entries: one by one, the place of one, and one more.
 -- Assumes nothing.
-use Prim.Native.Nat.{ℕ, zero, suc, _+_, _≤_, _<_}
+use Prim.Native.Nat.{ℕ, zero, suc, _+_, _*_, _≤_, _<_}
 use mathlib.Core.Path.{_≡_, refl, sym, _∙_, ap, ap₂, subst}
 use mathlib.Core.Bool.{Bool, true, false, _&&_, and-false}
 use mathlib.Core.List.{List, [], _∷_, _++_}
 use native.Mathlib.Omega.{arith}
 use native.Mathlib.Numerals.{add-one}
 use lib.Dec.{eqb}
-use lib.ListN.{length, getD, take, drop, set}
-use lib.Seq.{length-take-le, take-suc-set, getD-take, slice-empty, slice-cons}
+use lib.ListN.{length, getD, drop}
+use lib.Seq.{drop-cons, drop-length}
 use borrow.Author.Tests.{eq-eqb, ne-eqb, eqb-true}
 use Rattle.ground.specs.Choice.{pick}
+use Rattle.ground.proofs.SequenceLaws.{listOf-length, listOf-more, listOf-same, get-listOf}
 use Rattle.table.specs.Table.{Entry}
 use Rattle.table.specs.Inside.{entryMade}
 use Rattle.derivation.specs.Distinct.{placeOf}
 use Rattle.derivation.specs.Rewriting.{same}
 use Rattle.derivation.proofs.TableDistinct.{place-most, add-found, add-end}
-use Rattle.index.specs.Entries.{entriesWith, entriesTo, after, Entered}
+use Rattle.index.specs.Entries.{usersAt, permissionsAt, entryAt, entriesTo, withPair, after, Entered}
 use Rattle.index.specs.Tree.{Absent, Indexed}
+use Rattle.index.proofs.PairLaws.{users-kept, permissions-kept, users-new, permissions-new}
 
--- ---- sets side by side
+-- ---- one by one
 
-pub entries-length : (source : ℕ) (us ps : List ℕ) → length us ≡ length ps → length (entriesWith source us ps) ≡ length us
-unfolding entriesWith
-entries-length source [] ps h = refl
-entries-length source (u ∷ us) [] h = absurd (omega arith)
-entries-length source (u ∷ us) (p ∷ ps) h = ap suc (entries-length source us ps (omega arith))
+module _ (source n : ℕ) (pairs : List ℕ) where
+  pub entries-length : length (entriesTo source n pairs) ≡ n
+  unfolding entriesTo
+  entries-length = listOf-length n (entryAt source pairs)
 
-entries-snoc : (source : ℕ) (us ps : List ℕ) (u p : ℕ) → length us ≡ length ps
-    → entriesWith source (us ++ (u ∷ [])) (ps ++ (p ∷ [])) ≡ entriesWith source us ps ++ (entryMade source u p ∷ [])
-unfolding entriesWith
-entries-snoc source [] [] u p h = refl
-entries-snoc source [] (y ∷ ps) u p h = absurd (omega arith)
-entries-snoc source (x ∷ us) [] u p h = absurd (omega arith)
-entries-snoc source (x ∷ us) (y ∷ ps) u p h = ap (λ (l : List Entry). entryMade source x y ∷ l) (entries-snoc source us ps u p (omega arith))
+  entry-is : (k : ℕ) (e : Entry) → k < n → getD (entriesTo source n pairs) k e ≡ entryAt source pairs k
+  unfolding entriesTo
+  entry-is k e h = get-listOf n (entryAt source pairs) e k h
 
--- the entries from i on
-abbrev pub entriesLeft : ℕ → ℕ → ℕ → List ℕ → List ℕ → List Entry
-entriesLeft source i n us ps = entriesWith source (drop i (take n us)) (drop i (take n ps))
+  -- the entries from i on
+  pub left-turn : (i : ℕ) → i < n → drop i (entriesTo source n pairs) ≡ entryAt source pairs i ∷ drop (i + 1) (entriesTo source n pairs)
+  left-turn i h =
+      drop-cons (entriesTo source n pairs) i (entryAt source pairs i) (omega (arith, entries-length))
+      ∙ ap₂ (λ (e : Entry) (k : ℕ). e ∷ drop k (entriesTo source n pairs)) (entry-is i (entryAt source pairs i) h) (sym (add-one i))
 
-pub left-turn : (source i n : ℕ) (us ps : List ℕ) → i < n → n ≤ length us → n ≤ length ps
-    → entriesLeft source i n us ps ≡ entryMade source (getD us i 0) (getD ps i 0) ∷ entriesLeft source (i + 1) n us ps
-unfolding entriesWith
-left-turn source i n us ps h p q =
-    ap₂ (entriesWith source) (slice-cons i n us 0 h p) (slice-cons i n ps 0 h q)
-    ∙ ap (λ (k : ℕ). entryMade source (getD us i 0) (getD ps i 0) ∷ entriesLeft source k n us ps) (sym (add-one i))
+  pub left-none : (i : ℕ) → i ≡ n → drop i (entriesTo source n pairs) ≡ []
+  left-none i e = ap (λ (k : ℕ). drop k (entriesTo source n pairs)) (e ∙ sym entries-length) ∙ drop-length (entriesTo source n pairs)
 
-pub left-none : (source n : ℕ) (us ps : List ℕ) → entriesLeft source n n us ps ≡ []
-unfolding entriesWith
-left-none source n us ps = ap (λ (l : List ℕ). entriesWith source l (drop n (take n ps))) (slice-empty n us)
+pub entries-none : (source : ℕ) (pairs : List ℕ) → entriesTo source 0 pairs ≡ []
+entries-none source pairs = left-none source 0 pairs 0 refl
 
 -- ---- the place of an entry
+
+module _ {A : Type 0} (alike : A → A → Bool) (x : A) where
+  -- not after a place where it stands
+  place-upto : (l : List A) (k : ℕ) (z : A) → k < length l → alike x (getD l k z) ≡ true → placeOf alike x l ≤ k
+  unfolding placeOf
+  place-upto [] k z h t = absurd (omega arith)
+  place-upto (y ∷ l) zero z h t = rw t (omega arith)
+  place-upto (y ∷ l) (suc k) z h t = go (alike x y) (place-upto l k z (omega arith) t)
+    where
+      go : (b : Bool) → placeOf alike x l ≤ k → pick b 0 (suc (placeOf alike x l)) ≤ suc k
+      go true i = omega arith
+      go false i = omega arith
+
+  -- not among the first k where it is not there
+  place-from : (l : List A) (k : ℕ) (z : A) → k ≤ length l → ((i : ℕ) → i < k → alike x (getD l i z) ≡ false) → k ≤ placeOf alike x l
+  unfolding placeOf
+  place-from l zero z h f = omega arith
+  place-from [] (suc k) z h f = absurd (omega arith)
+  place-from (y ∷ l) (suc k) z h f = let q = place-from l k z (omega arith) (λ i w. f (suc i) (omega arith)) in rw (f 0 (omega arith)) (omega arith)
 
 module _ (source u p : ℕ) where
   same-entry : (x y : ℕ) → x ≡ u → y ≡ p → same (entryMade source u p) (entryMade source x y) ≡ true
@@ -64,87 +77,66 @@ module _ (source u p : ℕ) where
       go false b e f = rw (eq-eqb source source refl, e)
       go true false e f = rw f (and-false (eqb source source && eqb u x))
 
-  -- not after a place where it stands
-  place-upto : (us ps : List ℕ) (k : ℕ) → k < length us → length us ≡ length ps → getD us k 0 ≡ u → getD ps k 0 ≡ p
-      → placeOf same (entryMade source u p) (entriesWith source us ps) ≤ k
-  unfolding entriesWith placeOf
-  place-upto [] ps k h l eu ep = absurd (omega arith)
-  place-upto (x ∷ us) [] k h l eu ep = absurd (omega arith)
-  place-upto (x ∷ us) (y ∷ ps) zero h l eu ep = rw (same-entry x y eu ep) (omega arith)
-  place-upto (x ∷ us) (y ∷ ps) (suc k) h l eu ep = go (same (entryMade source u p) (entryMade source x y)) (place-upto us ps k (omega arith) (omega arith) eu ep)
-    where
-      go : (b : Bool) → placeOf same (entryMade source u p) (entriesWith source us ps) ≤ k
-          → pick b 0 (suc (placeOf same (entryMade source u p) (entriesWith source us ps))) ≤ suc k
-      go true i = omega arith
-      go false i = omega arith
-
-  -- not among the first k where it is not there
-  place-from : (us ps : List ℕ) (k : ℕ) → k ≤ length us → length us ≡ length ps → Absent k us ps u p
-      → k ≤ placeOf same (entryMade source u p) (entriesWith source us ps)
-  unfolding entriesWith placeOf
-  place-from us ps zero h l a = omega arith
-  place-from [] ps (suc k) h l a = absurd (omega arith)
-  place-from (x ∷ us) [] (suc k) h l a = absurd (omega arith)
-  place-from (x ∷ us) (y ∷ ps) (suc k) h l a =
-      let z = place-from us ps k (omega arith) (omega arith) (record { nowhere = λ i hi. a .nowhere (suc i) (omega arith) }) in
-      rw (other-entry x y (a .nowhere 0 (omega arith))) (omega arith)
-
 -- ---- one more
 
-module _ (source d : ℕ) (us ps : List ℕ) (u p : ℕ) (hu : d < length us) (hp : d < length ps) where
-  lu : length (take d us) ≡ d
-  lu = length-take-le d us (omega arith)
+module _ (source d : ℕ) (pairs : List ℕ) (u p : ℕ) where
+  abbrev entry : Entry
+  entry = entryMade source u p
 
-  lp : length (take d ps) ≡ d
-  lp = length-take-le d ps (omega arith)
+  abbrev entries : List Entry
+  entries = entriesTo source d pairs
 
-  ld : length (entriesTo source d us ps) ≡ d
-  ld = entries-length source (take d us) (take d ps) (lu ∙ sym lp) ∙ lu
+  last-of : (k : ℕ) → k < d → usersAt pairs k ≡ u → permissionsAt pairs k ≡ p → placeOf same entry entries ≤ k
+  last-of k h eu ep =
+      place-upto same entry entries k entry (omega (arith, entries-length source d pairs))
+      (ap (same entry) (entry-is source d pairs k entry h) ∙ same-entry source u p (usersAt pairs k) (permissionsAt pairs k) eu ep)
 
-  first-of : (k : ℕ) → k ≤ d → Absent k us ps u p → k ≤ placeOf same (entryMade source u p) (entriesTo source d us ps)
+  first-of : (k : ℕ) → k ≤ d → Absent k pairs u p → k ≤ placeOf same entry entries
   first-of k h a =
-      place-from source u p (take d us) (take d ps) k (omega (arith, lu)) (lu ∙ sym lp)
-      (record { nowhere = λ i hi eu ep. a .nowhere i hi (sym (getD-take d us i 0 (omega arith)) ∙ eu) (sym (getD-take d ps i 0 (omega arith)) ∙ ep) })
+      place-from same entry entries k entry (omega (arith, entries-length source d pairs))
+      (λ i w. ap (same entry) (entry-is source d pairs i entry (omega arith)) ∙ other-entry source u p (usersAt pairs i) (permissionsAt pairs i) (a .nowhere i w))
 
   -- the pair is there
-  pub entered-old : (k : ℕ) → k < d → getD us k 0 ≡ u → getD ps k 0 ≡ p → Absent k us ps (getD us k 0) (getD ps k 0)
-      → Entered source (entryMade source u p) d us ps us ps k
+  pub entered-old : (k : ℕ) → k < d → usersAt pairs k ≡ u → permissionsAt pairs k ≡ p → Absent k pairs (usersAt pairs k) (permissionsAt pairs k)
+      → Entered source entry d pairs pairs k
   entered-old k h eu ep a =
-      let e : k ≡ placeOf same (entryMade source u p) (entriesTo source d us ps)
-      = omega (
-        arith,
-        first-of k (omega arith) (rw (eu, ep) at a),
-        place-upto source u p (take d us) (take d ps) k (omega (arith, lu)) (lu ∙ sym lp) (getD-take d us k 0 h ∙ eu) (getD-take d ps k 0 h ∙ ep),
-      ) in
+      let e : k ≡ placeOf same entry entries = omega (arith, first-of k (omega arith) (rw (eu, ep) at a), last-of k h eu ep) in
       record {
         place = e;
         most = omega arith;
         entries-then =
-            ap (λ (b : Bool). entriesTo source (pick b (d + 1) d) us ps) (ne-eqb k d (λ z. omega arith))
-            ∙ sym (add-found same (entriesTo source d us ps) (entryMade source u p) (omega (arith, ld)));
+            ap (λ (b : Bool). entriesTo source (pick b (d + 1) d) pairs) (ne-eqb k d (λ z. omega arith))
+            ∙ sym (add-found same entries entry (omega (arith, entries-length source d pairs)));
       }
 
+  -- with the pair as the next one
+  entries-more : 2 * d + 1 < length pairs → entriesTo source (d + 1) (withPair pairs d u p) ≡ entries ++ (entry ∷ [])
+  unfolding entriesTo
+  entries-more h =
+      let q = withPair pairs d u p in
+      listOf-more d (entryAt source q)
+      ∙ ap₂ (λ (l : List Entry) (e : Entry). l ++ (e ∷ []))
+      (listOf-same d (entryAt source q) (entryAt source pairs) (λ k l. ap₂ (entryMade source) (users-kept pairs d u p k l) (permissions-kept pairs d u p k l)))
+      (ap₂ (entryMade source) (users-new pairs d u p h) (permissions-new pairs d u p h))
+
   -- it is not, and comes next
-  pub entered-new : (us′ ps′ : List ℕ) → us′ ≡ set us d u → ps′ ≡ set ps d p → Absent d us ps u p → Entered source (entryMade source u p) d us ps us′ ps′ d
-  entered-new us′ ps′ eu ep a =
-      let e : d ≡ placeOf same (entryMade source u p) (entriesTo source d us ps)
-      = omega (arith, first-of d (omega arith) a, place-most same (entryMade source u p) (entriesTo source d us ps), ld) in
+  pub entered-new : 2 * d + 1 < length pairs → (pairs′ : List ℕ) → pairs′ ≡ withPair pairs d u p → Absent d pairs u p → Entered source entry d pairs pairs′ d
+  entered-new h pairs′ q a =
+      let e : d ≡ placeOf same entry entries
+      = omega (arith, first-of d (omega arith) a, place-most same entry entries, entries-length source d pairs) in
       record {
         place = e;
         most = omega arith;
         entries-then =
-            ap (λ (b : Bool). entriesTo source (pick b (d + 1) d) us′ ps′) (eq-eqb d d refl)
-            ∙ ap (λ (n : ℕ). entriesTo source n us′ ps′) (add-one d)
-            ∙ ap₂ (λ (v q : List ℕ). entriesTo source (suc d) v q) eu ep
-            ∙ ap₂ (entriesWith source) (take-suc-set us d u hu) (take-suc-set ps d p hp)
-            ∙ entries-snoc source (take d us) (take d ps) u p (lu ∙ sym lp)
-            ∙ sym (add-end same (entriesTo source d us ps) (entryMade source u p) (omega (arith, ld)));
+            ap₂ (λ (b : Bool) (l : List ℕ). entriesTo source (pick b (d + 1) d) l) (eq-eqb d d refl) q
+            ∙ entries-more h
+            ∙ sym (add-end same entries entry (omega (arith, entries-length source d pairs)));
       }
 
 -- the tree of as many pairs as there are then
-pub index-old : {d : ℕ} {us ps links : List ℕ} {a b : ℕ} → Indexed d us ps links a b → (k : ℕ) → k < d → Indexed (after d k) us ps links a b
-index-old {d} {us} {ps} {links} {a} {b} x k h =
-    subst (λ (t : Bool). Indexed (pick t (d + 1) d) us ps links a b) (sym (ne-eqb k d (λ e. omega arith))) x
+pub index-old : {d : ℕ} {pairs links : List ℕ} {a b : ℕ} → Indexed d pairs links a b → (k : ℕ) → k < d → Indexed (after d k) pairs links a b
+index-old {d} {pairs} {links} {a} {b} x k h =
+    subst (λ (t : Bool). Indexed (pick t (d + 1) d) pairs links a b) (sym (ne-eqb k d (λ e. omega arith))) x
 
-pub index-new : (d : ℕ) {us ps links : List ℕ} {a b : ℕ} → Indexed (d + 1) us ps links a b → Indexed (after d d) us ps links a b
-index-new d {us} {ps} {links} {a} {b} x = subst (λ (t : Bool). Indexed (pick t (d + 1) d) us ps links a b) (sym (eq-eqb d d refl)) x
+pub index-new : (d : ℕ) {pairs links : List ℕ} {a b : ℕ} → Indexed (d + 1) pairs links a b → Indexed (after d d) pairs links a b
+index-new d {pairs} {links} {a} {b} x = subst (λ (t : Bool). Indexed (pick t (d + 1) d) pairs links a b) (sym (eq-eqb d d refl)) x

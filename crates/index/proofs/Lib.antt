@@ -1,3 +1,4 @@
+pub mod PairLaws
 pub mod TurnLaws
 pub mod WalkLaws
 pub mod LinkLaws

@@ -12,13 +12,15 @@ use lib.Seq.{getD-set-same, getD-set-other}
 use borrow.Author.Count.{below-more}
 use borrow.Author.Tests.{eqb-true, eqb-false}
 use Rattle.ground.proofs.BoolLaws.{lt-or-le}
+use Rattle.index.specs.Entries.{usersAt, permissionsAt, withPair}
 use Rattle.index.specs.Tree.{turnAt, bucketOf, Comes, Within, Absent, Reached, Indexed, Ends}
+use Rattle.index.proofs.PairLaws.{users-kept, permissions-kept, users-new, permissions-new}
 use Rattle.index.proofs.TurnLaws.{bucket-small}
 use Rattle.index.proofs.WalkLaws.{comes-below}
 
 -- with no pair, where no tree has a root
-pub index-none : (links us ps : List ℕ) (a b : ℕ) → ((h : ℕ) → h < 512 → getD links h 0 ≡ 0) → Indexed 0 us ps links a b
-index-none links us ps a b z =
+pub index-none : (links pairs : List ℕ) (a b : ℕ) → ((h : ℕ) → h < 512 → getD links h 0 ≡ 0) → Indexed 0 pairs links a b
+index-none links pairs a b z =
     record {
       distinct = λ k h. absurd (omega arith);
       users-within = λ k h. absurd (omega arith);
@@ -34,23 +36,14 @@ cleared links i l z =
     below-more (λ (h : ℕ). getD (set links i 0) h 0 ≡ 0) i (λ h q. getD-set-other links i h 0 0 (λ e. omega arith) ∙ z h q) (getD-set-same links i 0 0 l)
 
 -- with u and p as pair d, linked at `hook`
-module _ (d : ℕ) (us ps : List ℕ) (u p : ℕ) (hu : d < length us) (hp : d < length ps) {links : List ℕ} {a b hook : ℕ} (x : Indexed d us ps links a b)
-    (hl : 512 + 2 * d + 1 < length links) (wu : Within u a) (wp : Within p b) (new : Absent d us ps u p) (ends : Ends d links a b u p hook) where
-  user-at : (i : ℕ) → i < d → getD (set us d u) i 0 ≡ getD us i 0
-  user-at i h = getD-set-other us d i u 0 (λ e. omega arith)
+module _ (d : ℕ) (pairs : List ℕ) (u p : ℕ) (hp : 2 * d + 1 < length pairs) {links : List ℕ} {a b hook : ℕ} (x : Indexed d pairs links a b)
+    (hl : 512 + 2 * d + 1 < length links) (wu : Within u a) (wp : Within p b) (new : Absent d pairs u p) (ends : Ends d links a b u p hook) where
+  abbrev pairs′ : List ℕ
+  pairs′ = withPair pairs d u p
 
-  permission-at : (i : ℕ) → i < d → getD (set ps d p) i 0 ≡ getD ps i 0
-  permission-at i h = getD-set-other ps d i p 0 (λ e. omega arith)
-
-  user-new : getD (set us d u) d 0 ≡ u
-  user-new = getD-set-same us d u 0 hu
-
-  permission-new : getD (set ps d p) d 0 ≡ p
-  permission-new = getD-set-same ps d p 0 hp
-
-  absent-kept : (k v q : ℕ) → k ≤ d → Absent k us ps v q → Absent k (set us d u) (set ps d p) v q
+  absent-kept : (k v q : ℕ) → k ≤ d → Absent k pairs v q → Absent k pairs′ v q
   absent-kept k v q h z =
-      record { nowhere = λ i hi e f. z .nowhere i hi (sym (user-at i (omega arith)) ∙ e) (sym (permission-at i (omega arith)) ∙ f) }
+      record { nowhere = λ i hi e f. z .nowhere i hi (sym (users-kept pairs d u p i (omega arith)) ∙ e) (sym (permissions-kept pairs d u p i (omega arith)) ∙ f) }
 
   -- ---- the links
 
@@ -133,16 +126,16 @@ module _ (d : ℕ) (us ps : List ℕ) (u p : ℕ) (hu : d < length us) (hp : d <
         to = c .to;
       }
 
-  old-leads : (k : ℕ) → k < d → Reached links′ a b (getD us k 0) (getD ps k 0) k
+  old-leads : (k : ℕ) → k < d → Reached links′ a b (usersAt pairs k) (permissionsAt pairs k) k
   old-leads k h =
       let r = x .leads k h in
-      let q = bucketOf (getD us k 0) (getD ps k 0) in
-      let z : q < 512 = bucket-small (getD us k 0) (getD ps k 0) in
+      let q = bucketOf (usersAt pairs k) (permissionsAt pairs k) in
+      let z : q < 512 = bucket-small (usersAt pairs k) (permissionsAt pairs k) in
       record {
         steps = r .steps;
         place = r .place;
-        comes = comes-kept q z (turnAt a b (getD us k 0) (getD ps k 0)) (r .steps) (r .place) (r .comes);
-        link = link-kept (r .place) k (comes-below x q z (turnAt a b (getD us k 0) (getD ps k 0)) (r .steps) (r .place) (r .comes)) (r .link);
+        comes = comes-kept q z (turnAt a b (usersAt pairs k) (permissionsAt pairs k)) (r .steps) (r .place) (r .comes);
+        link = link-kept (r .place) k (comes-below x q z (turnAt a b (usersAt pairs k) (permissionsAt pairs k)) (r .steps) (r .place) (r .comes)) (r .link);
       }
 
   new-leads : Reached links′ a b u p d
@@ -151,18 +144,18 @@ module _ (d : ℕ) (us ps : List ℕ) (u p : ℕ) (hu : d < length us) (hp : d <
 
   -- ---- one pair more
 
-  pub index-add : Indexed (d + 1) (set us d u) (set ps d p) links′ a b
+  pub index-add : Indexed (d + 1) pairs′ links′ a b
   index-add =
       record {
         distinct =
-            below-more (λ (k : ℕ). Absent k (set us d u) (set ps d p) (getD (set us d u) k 0) (getD (set ps d p) k 0)) d
-            (λ k h. rw (user-at k h, permission-at k h) (absent-kept k (getD us k 0) (getD ps k 0) (omega arith) (x .distinct k h)))
-            (rw (user-new, permission-new) (absent-kept d u p (omega arith) new));
-        users-within = below-more (λ (k : ℕ). Within (getD (set us d u) k 0) a) d (λ k h. rw (user-at k h) (x .users-within k h)) (rw user-new wu);
-        permissions-within = below-more (λ (k : ℕ). Within (getD (set ps d p) k 0) b) d (λ k h. rw (permission-at k h) (x .permissions-within k h)) (rw permission-new wp);
+            below-more (λ (k : ℕ). Absent k pairs′ (usersAt pairs′ k) (permissionsAt pairs′ k)) d
+            (λ k h. rw (users-kept pairs d u p k h, permissions-kept pairs d u p k h) (absent-kept k (usersAt pairs k) (permissionsAt pairs k) (omega arith) (x .distinct k h)))
+            (rw (users-new pairs d u p hp, permissions-new pairs d u p hp) (absent-kept d u p (omega arith) new));
+        users-within = below-more (λ (k : ℕ). Within (usersAt pairs′ k) a) d (λ k h. rw (users-kept pairs d u p k h) (x .users-within k h)) (rw (users-new pairs d u p hp) wu);
+        permissions-within = below-more (λ (k : ℕ). Within (permissionsAt pairs′ k) b) d (λ k h. rw (permissions-kept pairs d u p k h) (x .permissions-within k h)) (rw (permissions-new pairs d u p hp) wp);
         below = below-then;
         single = single-then;
         leads =
-            below-more (λ (k : ℕ). Reached links′ a b (getD (set us d u) k 0) (getD (set ps d p) k 0) k) d
-            (λ k h. rw (user-at k h, permission-at k h) (old-leads k h)) (rw (user-new, permission-new) new-leads);
+            below-more (λ (k : ℕ). Reached links′ a b (usersAt pairs′ k) (permissionsAt pairs′ k) k) d
+            (λ k h. rw (users-kept pairs d u p k h, permissions-kept pairs d u p k h) (old-leads k h)) (rw (users-new pairs d u p hp, permissions-new pairs d u p hp) new-leads);
       }

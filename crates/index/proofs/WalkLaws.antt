@@ -14,6 +14,7 @@ use borrow.Author.Tests.{eqb-true, eqb-false}
 use Rattle.ground.specs.Search.{one}
 use Rattle.bitset.specs.Sets.{count}
 use Rattle.index.specs.declared.Turn.{Turn}
+use Rattle.index.specs.Entries.{usersAt, permissionsAt}
 use Rattle.index.specs.Tree.{turnsOf, turnAt, Turned, bucketOf, childAt, Comes, Within, Absent, Indexed, Ends}
 use Rattle.index.proofs.TurnLaws.{turns-length, turns-none, one-pair, bucket-small}
 
@@ -64,7 +65,7 @@ module _ (links : List ℕ) (r : ℕ) (f : ℕ → Bool) where
           omega (arith, ap (λ (j : ℕ). getD links j 0) y)
       go false e ih = let ne : s ≡ suc t → ⊥ = eqb-false s (suc t) e in ih (omega arith)
 
-module _ {d : ℕ} {us ps links : List ℕ} {a b : ℕ} (x : Indexed d us ps links a b) where
+module _ {d : ℕ} {pairs links : List ℕ} {a b : ℕ} (x : Indexed d pairs links a b) where
   pub comes-below : (r : ℕ) → r < 512 → (f : ℕ → Bool) (s h : ℕ) → Comes links r f s h → h < 512 + 2 * d
   unfolding Comes
   comes-below r z f zero h c = omega arith
@@ -88,18 +89,18 @@ module _ {d : ℕ} {us ps links : List ℕ} {a b : ℕ} (x : Indexed d us ps lin
 -- ---- the walk that seeks u and p
 
 -- it stands at a place of the links, with rest-a and rest-b left to go by, and has not passed what it seeks
-pub record Seeking (n : ℕ) (us ps links : List ℕ) (a b u p rest-a rest-b hook : ℕ) : Type 0 where
+pub record Seeking (n : ℕ) (pairs links : List ℕ) (a b u p rest-a rest-b hook : ℕ) : Type 0 where
   pub steps : ℕ
   pub comes : Comes links (bucketOf u p) (turnAt a b u p) steps hook
   pub left : drop steps (turnsOf a b u p) ≡ turnsOf rest-a rest-b u p
-  pub ahead : (i t h : ℕ) → i < n → getD us i 0 ≡ u → getD ps i 0 ≡ p → Comes links (bucketOf u p) (turnAt a b u p) t h → getD links h 0 ≡ i + 1 → steps ≤ t
+  pub ahead : (i t h : ℕ) → i < n → usersAt pairs i ≡ u → permissionsAt pairs i ≡ p → Comes links (bucketOf u p) (turnAt a b u p) t h → getD links h 0 ≡ i + 1 → steps ≤ t
 
-pub seek-start : (n : ℕ) (us ps links : List ℕ) (a b u p hook : ℕ) → hook ≡ bucketOf u p → Seeking n us ps links a b u p a b hook
-seek-start n us ps links a b u p hook e =
-    subst (Seeking n us ps links a b u p a b) (sym e)
+pub seek-start : (n : ℕ) (pairs links : List ℕ) (a b u p hook : ℕ) → hook ≡ bucketOf u p → Seeking n pairs links a b u p a b hook
+seek-start n pairs links a b u p hook e =
+    subst (Seeking n pairs links a b u p a b) (sym e)
     (record { steps = 0; comes = comes-start links (bucketOf u p) (turnAt a b u p); left = refl; ahead = λ i t h l eu ep c q. omega arith })
 
-module _ {n : ℕ} {us ps links : List ℕ} {a b u p rest-a rest-b hook : ℕ} (x : Indexed n us ps links a b) (s : Seeking n us ps links a b u p rest-a rest-b hook) where
+module _ {n : ℕ} {pairs links : List ℕ} {a b u p rest-a rest-b hook : ℕ} (x : Indexed n pairs links a b) (s : Seeking n pairs links a b u p rest-a rest-b hook) where
   pub hook-below : hook < 512 + 2 * n
   hook-below = comes-below x (bucketOf u p) (bucket-small u p) (turnAt a b u p) (s .steps) hook (s .comes)
 
@@ -107,7 +108,7 @@ module _ {n : ℕ} {us ps links : List ℕ} {a b u p rest-a rest-b hook : ℕ} (
   link-below = x .below hook hook-below
 
   -- it ends here
-  pub seek-end : getD links hook 0 ≡ 0 → Absent n us ps u p × Ends n links a b u p hook
+  pub seek-end : getD links hook 0 ≡ 0 → Absent n pairs u p × Ends n links a b u p hook
   seek-end z = (
     record {
       nowhere =
@@ -115,7 +116,7 @@ module _ {n : ℕ} {us ps links : List ℕ} {a b u p rest-a rest-b hook : ℕ} (
           let r = x .leads i hi in
           let c : Comes links (bucketOf u p) (turnAt a b u p) (r .steps) (r .place)
           = subst (λ (v : ℕ). Comes links (bucketOf v p) (turnAt a b v p) (r .steps) (r .place)) eu
-          (subst (λ (q : ℕ). Comes links (bucketOf (getD us i 0) q) (turnAt a b (getD us i 0) q) (r .steps) (r .place)) ep (r .comes)) in
+          (subst (λ (q : ℕ). Comes links (bucketOf (usersAt pairs i) q) (turnAt a b (usersAt pairs i) q) (r .steps) (r .place)) ep (r .comes)) in
           absurd (omega (
             arith,
             comes-through links (bucketOf u p) (turnAt a b u p) (r .steps) (r .place) i c (r .link) (s .steps) hook
@@ -126,7 +127,7 @@ module _ {n : ℕ} {us ps links : List ℕ} {a b u p rest-a rest-b hook : ℕ} (
   )
 
   -- at pair k, which is another
-  module _ (k : ℕ) (link : getD links hook 0 ≡ k + 1) (other : getD us k 0 ≡ u → getD ps k 0 ≡ p → ⊥) where
+  module _ (k : ℕ) (link : getD links hook 0 ≡ k + 1) (other : usersAt pairs k ≡ u → permissionsAt pairs k ≡ p → ⊥) where
     k-below : k < n
     k-below = omega (arith, link-below)
 
@@ -134,8 +135,8 @@ module _ {n : ℕ} {us ps links : List ℕ} {a b u p rest-a rest-b hook : ℕ} (
     pub some-left : Within u a → Within p b → rest-a ≡ 0 → rest-b ≡ 0 → ⊥
     some-left wu wp za zb =
         let r = x .leads k k-below in
-        let v = getD us k 0 in
-        let q = getD ps k 0 in
+        let v = usersAt pairs k in
+        let q = permissionsAt pairs k in
         let e : r .place ≡ hook
         = x .single (r .place) hook k (comes-below x (bucketOf v q) (bucket-small v q) (turnAt a b v q) (r .steps) (r .place) (r .comes)) hook-below (r .link) link in
         let w = one-way x (bucketOf u p) (bucketOf v q) (bucket-small u p) (bucket-small v q) (turnAt a b u p) (turnAt a b v q) (s .steps) (r .steps) hook
@@ -148,14 +149,14 @@ module _ {n : ℕ} {us ps links : List ℕ} {a b u p rest-a rest-b hook : ℕ} (
         other (sym (o .0)) (sym (o .1))
 
     -- what it seeks is further on
-    ahead-on : (i t h : ℕ) → i < n → getD us i 0 ≡ u → getD ps i 0 ≡ p → Comes links (bucketOf u p) (turnAt a b u p) t h → getD links h 0 ≡ i + 1 → suc (s .steps) ≤ t
+    ahead-on : (i t h : ℕ) → i < n → usersAt pairs i ≡ u → permissionsAt pairs i ≡ p → Comes links (bucketOf u p) (turnAt a b u p) t h → getD links h 0 ≡ i + 1 → suc (s .steps) ≤ t
     ahead-on i t h hi eu ep c l =
         let ne : t ≡ s .steps → ⊥
         = λ q.
         let z : h ≡ hook
         = comes-same links (bucketOf u p) (turnAt a b u p) (s .steps) h hook (subst (λ (j : ℕ). Comes links (bucketOf u p) (turnAt a b u p) j h) q c) (s .comes) in
         let y : i ≡ k = omega (arith, ap (λ (j : ℕ). getD links j 0) z) in
-        other (ap (λ (j : ℕ). getD us j 0) (sym y) ∙ eu) (ap (λ (j : ℕ). getD ps j 0) (sym y) ∙ ep) in
+        other (ap (λ (j : ℕ). usersAt pairs j) (sym y) ∙ eu) (ap (λ (j : ℕ). permissionsAt pairs j) (sym y) ∙ ep) in
         omega (arith, s .ahead i t h hi eu ep c l)
 
     module _ {t : Turn} (w : Turned rest-a rest-b u p t) where
@@ -178,7 +179,7 @@ module _ {n : ℕ} {us ps links : List ℕ} {a b u p rest-a rest-b hook : ℕ} (
       pub left-falls : (count (t .users) + count (t .permissions)) + 1 ≡ count rest-a + count rest-b
       left-falls = omega (arith, turns-length (t .users) (t .permissions) u p, turns-length rest-a rest-b u p, ap length (w .first))
 
-      pub seek-on : Seeking n us ps links a b u p (t .users) (t .permissions) (512 + 2 * k + t .side)
+      pub seek-on : Seeking n pairs links a b u p (t .users) (t .permissions) (512 + 2 * k + t .side)
       seek-on =
           record {
             steps = suc (s .steps);

@@ -1,31 +1,40 @@
--- Pairs of sets as the entries of a source, and one pair more.
-use Prim.Native.Nat.{ℕ, _+_, _≤_}
+-- Pairs of sets as the entries of a source, and one pair more. Pair k of a list has its users at place 2 k, and its permissions at the place after it.
+use Prim.Native.Nat.{ℕ, _+_, _*_, _≤_}
 use mathlib.Core.Path.{_≡_}
-use mathlib.Core.List.{List, [], _∷_}
+use mathlib.Core.List.{List}
 use lib.Dec.{eqb}
-use lib.ListN.{take}
+use lib.ListN.{getD, set}
 use Rattle.ground.specs.Choice.{pick}
+use Rattle.ground.specs.Sequence.{listOf}
 use Rattle.table.specs.Table.{Entry}
 use Rattle.table.specs.Inside.{entryMade}
 use Rattle.derivation.specs.Distinct.{addNew, placeOf}
 use Rattle.derivation.specs.Rewriting.{same}
 
--- sets side by side as entries of a source
-unfoldable pub entriesWith : ℕ → List ℕ → List ℕ → List Entry
-entriesWith source [] ps = []
-entriesWith source (u ∷ us) [] = []
-entriesWith source (u ∷ us) (p ∷ ps) = entryMade source u p ∷ entriesWith source us ps
+-- the two sets of pair k
+abbrev pub usersAt : List ℕ → ℕ → ℕ
+usersAt pairs k = getD pairs (2 * k) 0
 
--- the first n of both
-abbrev pub entriesTo : ℕ → ℕ → List ℕ → List ℕ → List Entry
-entriesTo source n us ps = entriesWith source (take n us) (take n ps)
+abbrev pub permissionsAt : List ℕ → ℕ → ℕ
+permissionsAt pairs k = getD pairs (2 * k + 1) 0
+
+-- pair k as an entry of a source, and the first n pairs
+abbrev pub entryAt : ℕ → List ℕ → ℕ → Entry
+entryAt source pairs k = entryMade source (usersAt pairs k) (permissionsAt pairs k)
+
+unfoldable pub entriesTo : ℕ → ℕ → List ℕ → List Entry
+entriesTo source n pairs = listOf n (entryAt source pairs)
+
+-- with u and p as pair d
+unfoldable pub withPair : List ℕ → ℕ → ℕ → ℕ → List ℕ
+withPair pairs d u p = set (set pairs (2 * d) u) (2 * d + 1) p
 
 -- how many entries there are once one has come to stand at place k
 abbrev pub after : ℕ → ℕ → ℕ
 after d k = pick (eqb k d) (d + 1) d
 
 -- entry e came to stand at place k: where it was, or after the d that there were
-pub record Entered (source : ℕ) (e : Entry) (d : ℕ) (us ps us′ ps′ : List ℕ) (k : ℕ) : Type 0 where
-  pub place : k ≡ placeOf same e (entriesTo source d us ps)
+pub record Entered (source : ℕ) (e : Entry) (d : ℕ) (pairs pairs′ : List ℕ) (k : ℕ) : Type 0 where
+  pub place : k ≡ placeOf same e (entriesTo source d pairs)
   pub most : k ≤ d
-  pub entries-then : entriesTo source (after d k) us′ ps′ ≡ addNew same (entriesTo source d us ps) e
+  pub entries-then : entriesTo source (after d k) pairs′ ≡ addNew same (entriesTo source d pairs) e

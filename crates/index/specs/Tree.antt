@@ -7,6 +7,7 @@ use lib.ListN.{getD}
 use Rattle.ground.specs.Choice.{pick}
 use Rattle.ground.specs.Search.{one}
 use Rattle.bitset.specs.Sets.{has}
+use Rattle.index.specs.Entries.{usersAt, permissionsAt}
 use Rattle.index.specs.declared.Turn.{Turn}
 use Rattle.index.specs.declared.Found.{Found}
 
@@ -57,8 +58,8 @@ pub record Within (x a : ℕ) : Type 0 where
   pub members : (j : ℕ) → has x j ≡ true → has a j ≡ true
 
 -- u and p are not one of the first d pairs
-pub record Absent (d : ℕ) (us ps : List ℕ) (u p : ℕ) : Type 0 where
-  pub nowhere : (i : ℕ) → i < d → getD us i 0 ≡ u → getD ps i 0 ≡ p → ⊥
+pub record Absent (d : ℕ) (pairs : List ℕ) (u p : ℕ) : Type 0 where
+  pub nowhere : (i : ℕ) → i < d → usersAt pairs i ≡ u → permissionsAt pairs i ≡ p → ⊥
 
 -- the walk that seeks u and p comes to pair i
 pub record Reached (links : List ℕ) (a b u p i : ℕ) : Type 0 where
@@ -68,13 +69,13 @@ pub record Reached (links : List ℕ) (a b u p i : ℕ) : Type 0 where
   pub link : getD links place 0 ≡ i + 1
 
 -- the first d pairs are distinct and within a and b, links lead to them alone, no two to one pair, and the walk that seeks a pair comes to it
-pub record Indexed (d : ℕ) (us ps links : List ℕ) (a b : ℕ) : Type 0 where
-  pub distinct : (k : ℕ) → k < d → Absent k us ps (getD us k 0) (getD ps k 0)
-  pub users-within : (k : ℕ) → k < d → Within (getD us k 0) a
-  pub permissions-within : (k : ℕ) → k < d → Within (getD ps k 0) b
+pub record Indexed (d : ℕ) (pairs links : List ℕ) (a b : ℕ) : Type 0 where
+  pub distinct : (k : ℕ) → k < d → Absent k pairs (usersAt pairs k) (permissionsAt pairs k)
+  pub users-within : (k : ℕ) → k < d → Within (usersAt pairs k) a
+  pub permissions-within : (k : ℕ) → k < d → Within (permissionsAt pairs k) b
   pub below : (h : ℕ) → h < 512 + 2 * d → getD links h 0 ≤ d
   pub single : (g h k : ℕ) → g < 512 + 2 * d → h < 512 + 2 * d → getD links g 0 ≡ k + 1 → getD links h 0 ≡ k + 1 → g ≡ h
-  pub leads : (k : ℕ) → k < d → Reached links a b (getD us k 0) (getD ps k 0) k
+  pub leads : (k : ℕ) → k < d → Reached links a b (usersAt pairs k) (permissionsAt pairs k) k
 
 -- the walk that seeks u and p ends at this place of the links
 pub record Ends (d : ℕ) (links : List ℕ) (a b u p hook : ℕ) : Type 0 where
@@ -84,7 +85,7 @@ pub record Ends (d : ℕ) (links : List ℕ) (a b u p hook : ℕ) : Type 0 where
   pub free : getD links hook 0 ≡ 0
 
 -- a pair is found; or it is not there, and its walk has ended
-pub record Sought (n : ℕ) (us ps links : List ℕ) (a b u p : ℕ) (f : Found) : Type 0 where
+pub record Sought (n : ℕ) (pairs links : List ℕ) (a b u p : ℕ) (f : Found) : Type 0 where
   pub most : f .place ≤ n
-  pub here : f .place < n → (getD us (f .place) 0 ≡ u) × (getD ps (f .place) 0 ≡ p)
-  pub absent : f .place ≡ n → Absent n us ps u p × Ends n links a b u p (f .hook)
+  pub here : f .place < n → (usersAt pairs (f .place) ≡ u) × (permissionsAt pairs (f .place) ≡ p)
+  pub absent : f .place ≡ n → Absent n pairs u p × Ends n links a b u p (f .hook)

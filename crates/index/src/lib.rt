@@ -1,15 +1,16 @@
 // Pairs of sets in the order in which they first come, each once, and an index that finds a pair among them: 512 digital search trees (Coffman and Eve,
-// 1970), over which the pairs are spread. The pairs themselves are the nodes. The first 512 places of the links have the roots, and places 512 + 2 k and
-// 513 + 2 k the two children of pair k, each as one more than its place, or 0 where there is none. A walk turns at each pair by one member, of those
-// that any pair can have, and goes on without it: however the pairs are chosen, it looks at no more of them than there are such members, and one.
+// 1970), over which the pairs are spread. Pair k has its users at place 2 k of `pairs` and its permissions at 2 k + 1. The pairs themselves are the nodes.
+// The first 512 places of the links have the roots, and places 512 + 2 k and 513 + 2 k the two children of pair k, each as one more than its number, or 0
+// where there is none. A walk turns at each pair by one member, of those that any pair can have, and goes on without it: however the pairs are chosen, it
+// looks at no more of them than there are such members, and one.
 ghost use mathlib.Core.Path.{_≡_};
 ghost use mathlib.Core.List.{List};
 ghost use Prim.Native.Nat.{ℕ, _+_, _*_, _<_, _≤_};
-ghost use lib.ListN.{length, set};
+ghost use lib.ListN.{length};
 ghost use Rattle.ground.specs.Search.{one};
 ghost use Rattle.bitset.specs.Sets.{has};
 ghost use Rattle.table.specs.Inside.{entryMade};
-ghost use Rattle.index.specs.Entries.{Entered, after};
+ghost use Rattle.index.specs.Entries.{Entered, withPair, after};
 ghost use Rattle.index.specs.Tree.{Turned, bucketOf, Within, Indexed, Absent, Ends, Sought};
 
 // A turn of a walk: to which side, and which members are left to go by.
@@ -63,10 +64,10 @@ fn bucket(u: u64, p: u64) -> usize
 }
 
 // Where u and p stand among the first n pairs; or n, and where the walk that seeks them ends.
-fn find(us: &[u64], ps: &[u64], links: &[u16], a: u64, b: u64, n: usize, u: u64, p: u64) -> Found
-    requires { ⌜ (n ≤ length (now us)) × (n ≤ length (now ps)) × (512 + 2 * n ≤ length (now links)) × (n < 33345) ⌝ }
-    requires { ⌜ Indexed n (now us) (now ps) (now links) a b × Within u a × Within p b ⌝ }
-    ensures { λ f. ⌜ Sought n (now (us .entry)) (now (ps .entry)) (now (links .entry)) a b u p f ⌝ }
+fn find(pairs: &[u64], links: &[u16], a: u64, b: u64, n: usize, u: u64, p: u64) -> Found
+    requires { ⌜ (2 * n ≤ length (now pairs)) × (512 + 2 * n ≤ length (now links)) × (n < 33345) ⌝ }
+    requires { ⌜ Indexed n (now pairs) (now links) a b × Within u a × Within p b ⌝ }
+    ensures { λ f. ⌜ Sought n (now (pairs .entry)) (now (links .entry)) a b u p f ⌝ }
 {
     let mut rest_a = a;
     let mut rest_b = b;
@@ -77,8 +78,8 @@ fn find(us: &[u64], ps: &[u64], links: &[u16], a: u64, b: u64, n: usize, u: u64,
             return Found { place: n, hook };
         }
         let k = c - 1;
-        if us[k] == u {
-            if ps[k] == p {
+        if pairs[2 * k] == u {
+            if pairs[2 * k + 1] == p {
                 return Found { place: k, hook };
             }
         }
@@ -90,24 +91,14 @@ fn find(us: &[u64], ps: &[u64], links: &[u16], a: u64, b: u64, n: usize, u: u64,
 }
 
 // The pair u and p, which is not among the first d, comes next, and is linked where its walk ended.
-fn add(
-    us: &mut [u64],
-    ps: &mut [u64],
-    links: &mut [u16],
-    a: u64,
-    b: u64,
-    d: usize,
-    u: u64,
-    p: u64,
-    hook: usize,
-)
-    requires { ⌜ (d < length (now us)) × (d < length (now ps)) × (512 + 2 * d + 1 < length (now links)) × (d < 33345) ⌝ }
-    requires { ⌜ Indexed d (now us) (now ps) (now links) a b × Within u a × Within p b × Absent d (now us) (now ps) u p × Ends d (now links) a b u p hook ⌝ }
-    ensures { λ _. ⌜ (now (us .exit) ≡ set (now (us .entry)) d u) × (now (ps .exit) ≡ set (now (ps .entry)) d p)
-        × Indexed (d + 1) (now (us .exit)) (now (ps .exit)) (now (links .exit)) a b ⌝ }
+fn add(pairs: &mut [u64], links: &mut [u16], a: u64, b: u64, d: usize, u: u64, p: u64, hook: usize)
+    requires { ⌜ (2 * d + 1 < length (now pairs)) × (512 + 2 * d + 1 < length (now links)) × (d < 33345) ⌝ }
+    requires { ⌜ Indexed d (now pairs) (now links) a b × Within u a × Within p b × Absent d (now pairs) u p × Ends d (now links) a b u p hook ⌝ }
+    ensures { λ _. ⌜ (now (pairs .exit) ≡ withPair (now (pairs .entry)) d u p)
+        × Indexed (d + 1) (now (pairs .exit)) (now (links .exit)) a b ⌝ }
 {
-    us[d] = u;
-    ps[d] = p;
+    pairs[2 * d] = u;
+    pairs[2 * d + 1] = p;
     links[hook] = (d + 1) as u16;
     links[512 + 2 * d] = 0;
     links[512 + 2 * d + 1] = 0;
@@ -116,7 +107,7 @@ fn add(
 // No pair yet: an index that has none, whatever pairs are to come.
 pub fn clear(links: &mut [u16])
     requires { ⌜ 512 ≤ length (now links) ⌝ }
-    ensures { λ _. ⌜ ((us ps : List ℕ) (a b : ℕ) → Indexed 0 us ps (now (links .exit)) a b) ⌝ }
+    ensures { λ _. ⌜ ((pairs : List ℕ) (a b : ℕ) → Indexed 0 pairs (now (links .exit)) a b) ⌝ }
 {
     let mut i = 0;
     while i < 512 {
@@ -128,8 +119,7 @@ pub fn clear(links: &mut [u16])
 // Where u and p stand among the first d pairs; where they are not there yet they become the next one, d.
 pub fn enter(
     source: u8,
-    us: &mut [u64],
-    ps: &mut [u64],
+    pairs: &mut [u64],
     links: &mut [u16],
     a: u64,
     b: u64,
@@ -137,16 +127,16 @@ pub fn enter(
     u: u64,
     p: u64,
 ) -> usize
-    requires { ⌜ (d < length (now us)) × (d < length (now ps)) × (512 + 2 * d + 1 < length (now links)) × (d < 33345) ⌝ }
-    requires { ⌜ Indexed d (now us) (now ps) (now links) a b × Within u a × Within p b ⌝ }
-    ensures { λ k. ⌜ Entered source (entryMade source u p) d (now (us .entry)) (now (ps .entry)) (now (us .exit)) (now (ps .exit)) k
-        × Indexed (after d k) (now (us .exit)) (now (ps .exit)) (now (links .exit)) a b ⌝ }
+    requires { ⌜ (2 * d + 1 < length (now pairs)) × (512 + 2 * d + 1 < length (now links)) × (d < 33345) ⌝ }
+    requires { ⌜ Indexed d (now pairs) (now links) a b × Within u a × Within p b ⌝ }
+    ensures { λ k. ⌜ Entered source (entryMade source u p) d (now (pairs .entry)) (now (pairs .exit)) k
+        × Indexed (after d k) (now (pairs .exit)) (now (links .exit)) a b ⌝ }
 {
-    let f = find(us, ps, links, a, b, d, u, p);
+    let f = find(pairs, links, a, b, d, u, p);
     let k = f.place;
     if k < d {
         return k;
     }
-    add(us, ps, links, a, b, d, u, p, f.hook);
+    add(pairs, links, a, b, d, u, p, f.hook);
     d
 }

@@ -2,22 +2,32 @@
 use native.Mathlib.Omega.{arith}
 use mathlib.Core.Path.{refl}
 use lib.ListN.{length-set}
+use Rattle.index.specs.Entries.{withPair}
 use Rattle.index.proofs.LinkLaws.{index-add}
 use borrow.Author.Needs.{needs}
 use Rattle.index.proofs.add.Statement.{statement}
 use Rattle.index.proofs.add.Tie as tie
 
-mul-us : tie.Need-mul-us
-mul-us c = search needs
+mul-pairs : tie.Need-mul-pairs
+mul-pairs c = search needs
 
-slice-write-us : tie.Need-slice-write-us
-slice-write-us c = search needs
+mul-pairs-2 : tie.Need-mul-pairs-2
+mul-pairs-2 c = search needs
 
-mul-ps : tie.Need-mul-ps
-mul-ps c = search needs
+slice-write-pairs : tie.Need-slice-write-pairs
+slice-write-pairs c = search needs
 
-slice-write-ps : tie.Need-slice-write-ps
-slice-write-ps c = search needs
+mul-pairs-3 : tie.Need-mul-pairs-3
+mul-pairs-3 c = search needs
+
+add-pairs : tie.Need-add-pairs
+add-pairs c = search needs
+
+mul-pairs-4 : tie.Need-mul-pairs-4
+mul-pairs-4 c = search needs
+
+slice-write-pairs-2 : tie.Need-slice-write-pairs-2
+slice-write-pairs-2 c = search needs
 
 add-links : tie.Need-add-links
 add-links c = search needs
@@ -64,20 +74,21 @@ same-length c = search needs
 same-length-2 : tie.Need-same-length-2
 same-length-2 c = search needs
 
-same-length-3 : tie.Need-same-length-3
-same-length-3 c = search needs
-
 returns : tie.Need-returns
-returns c = let a = c .args in let p = c .pre in (refl, refl, index-add (a .d) (a .us .now) (a .ps .now) (a .u) (a .p) (p .0 .0) (p .0 .1) (p .1 .0) (p .0 .2) (p .1 .1) (p .1 .2) (p .1 .3) (p .1 .4))
+unfolding withPair
+returns c = let a = c .args in let p = c .pre in (refl, index-add (a .d) (a .pairs .now) (a .u) (a .p) (p .0 .0) (p .1 .0) (p .0 .1) (p .1 .1) (p .1 .2) (p .1 .3) (p .1 .4))
 
 pub add-spec : {M : Type 1} → statement M
 add-spec =
     tie.close
     (tie.spec
-    mul-us
-    slice-write-us
-    mul-ps
-    slice-write-ps
+    mul-pairs
+    mul-pairs-2
+    slice-write-pairs
+    mul-pairs-3
+    add-pairs
+    mul-pairs-4
+    slice-write-pairs-2
     add-links
     cast-links
     mul-links
@@ -93,5 +104,4 @@ add-spec =
     slice-write-links-3
     same-length
     same-length-2
-    same-length-3
     returns)

@@ -34,7 +34,7 @@ same-length : tie.Need-same-length Inv-loop μ-loop
 same-length c = c .before .loop .inv .1
 
 returns : tie.Need-returns Inv-loop μ-loop
-returns c = λ us ps a b. index-none (c .before .loop .links) us ps a b (λ h l. c .before .loop .inv .2 h (omega arith))
+returns c = λ pairs a b. index-none (c .before .loop .links) pairs a b (λ h l. c .before .loop .inv .2 h (omega arith))
 
 pub clear-spec : {M : Type 1} → statement M
 clear-spec =
