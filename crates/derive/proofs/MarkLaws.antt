@@ -1,7 +1,7 @@
 -- One field: the mark, and the entries afterwards.
 -- Assumes nothing.
 use Prim.Native.Nat.{ℕ, suc, _+_}
-use mathlib.Core.Path.{_≡_, refl, sym, _∙_, ap, subst}
+use mathlib.Core.Path.{_≡_, refl, sym, _∙_, ap}
 use mathlib.Core.Bool.{Bool, true, false}
 use mathlib.Core.Option.{Option, none, some}
 use mathlib.Core.List.{List}
@@ -34,31 +34,31 @@ grown-after d k = ap (λ (b : Bool). pick b (d + 1) d) (go (eqb k d) refl)
 
 -- ---- a field that is not kept, and one that is
 
-pub mark-none : (source d : ℕ) (us ps : List ℕ) (o : Option Entry) → o ≡ none → Marked source o d us ps us ps 0
+pub mark-none : (source d : ℕ) (pairs : List ℕ) (o : Option Entry) → o ≡ none → Marked source o d pairs pairs 0
 unfolding markOf nextEntries
-mark-none source d us ps o e =
+mark-none source d pairs o e =
     record {
       marked = rw e;
       small = omega arith;
-      entries-then = rw e (ap (λ (n : ℕ). entriesTo source n us ps) (sym (grown-no d 0 (λ z. omega arith))));
+      entries-then = rw e (ap (λ (n : ℕ). entriesTo source n pairs) (sym (grown-no d 0 (λ z. omega arith))));
     }
 
-pub mark-kept : {source : ℕ} {e : Entry} {d : ℕ} {us ps us′ ps′ : List ℕ} {k : ℕ} → Entered source e d us ps us′ ps′ k → (o : Option Entry) → o ≡ some e
-    → Marked source o d us ps us′ ps′ (k + 1)
+pub mark-kept : {source : ℕ} {e : Entry} {d : ℕ} {pairs pairs′ : List ℕ} {k : ℕ} → Entered source e d pairs pairs′ k → (o : Option Entry) → o ≡ some e
+    → Marked source o d pairs pairs′ (k + 1)
 unfolding markOf nextEntries
-mark-kept {source} {d = d} {us′ = us′} {ps′} {k} x o q =
+mark-kept {source} {d = d} {pairs′ = pairs′} {k} x o q =
     record {
       marked = rw q (add-one k ∙ ap suc (x .place));
       small = omega (arith, x .most);
-      entries-then = rw q (ap (λ (n : ℕ). entriesTo source n us′ ps′) (grown-after d k) ∙ x .entries-then);
+      entries-then = rw q (ap (λ (n : ℕ). entriesTo source n pairs′) (grown-after d k) ∙ x .entries-then);
     }
 
 -- the index of as many entries as there are after a mark
-pub index-then : {n k : ℕ} {us ps links : List ℕ} {a b : ℕ} → n ≡ k → Indexed k us ps links a b → Indexed n us ps links a b
-index-then {us = us} {ps} {links} {a} {b} e x = subst (λ (j : ℕ). Indexed j us ps links a b) (sym e) x
+pub index-then : {n k : ℕ} {pairs links links′ : List ℕ} {a b : ℕ} → n ≡ k → links′ ≡ links → Indexed k pairs links a b → Indexed n pairs links′ a b
+index-then e q x = rw (e, q) x
 
-pub index-none : {d : ℕ} {us ps links : List ℕ} {a b : ℕ} → Indexed d us ps links a b → Indexed (grown d 0) us ps links a b
-index-none {d} x = index-then (sym (grown-no d 0 (λ z. omega arith))) x
+pub index-none : {d : ℕ} {pairs links : List ℕ} {a b : ℕ} → Indexed d pairs links a b → Indexed (grown d 0) pairs links a b
+index-none {d} x = index-then (sym (grown-no d 0 (λ z. omega arith))) refl x
 
-pub index-kept : (d k : ℕ) {us ps links : List ℕ} {a b : ℕ} → Indexed (after d k) us ps links a b → Indexed (grown d (k + 1)) us ps links a b
-index-kept d k x = index-then (grown-after d k) x
+pub index-kept : (d k : ℕ) {pairs links : List ℕ} {a b : ℕ} → Indexed (after d k) pairs links a b → Indexed (grown d (k + 1)) pairs links a b
+index-kept d k x = index-then (grown-after d k) refl x

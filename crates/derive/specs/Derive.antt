@@ -23,36 +23,34 @@ abbrev pub grown : ℕ → ℕ → ℕ
 grown d m = pick (eqb m (d + 1)) (d + 1) d
 
 -- one field: its mark, and the entries afterwards
-pub record Marked (source : ℕ) (kept : Option Entry) (d : ℕ) (us ps us′ ps′ : List ℕ) (m : ℕ) : Type 0 where
-  pub marked : m ≡ markOf (entriesTo source d us ps) kept
+pub record Marked (source : ℕ) (kept : Option Entry) (d : ℕ) (pairs pairs′ : List ℕ) (m : ℕ) : Type 0 where
+  pub marked : m ≡ markOf (entriesTo source d pairs) kept
   pub small : m ≤ d + 1
-  pub entries-then : entriesTo source (grown d m) us′ ps′ ≡ nextEntries (entriesTo source d us ps) kept
+  pub entries-then : entriesTo source (grown d m) pairs′ ≡ nextEntries (entriesTo source d pairs) kept
 
--- the lists have n places, the links two for each and 512, and a mark fits two bytes
-pub record Room (n : ℕ) (masks us ps marks links : List ℕ) : Type 0 where
+-- there is room for n masks, for n pairs, and for n marks with the links of n pairs after them; a mark fits two bytes
+pub record Room (n : ℕ) (masks pairs work : List ℕ) : Type 0 where
   pub few : n ≤ 33345
   pub for-masks : n ≤ length masks
-  pub for-users : n ≤ length us
-  pub for-permissions : n ≤ length ps
-  pub for-marks : n ≤ length marks
-  pub for-links : 512 + 2 * n ≤ length links
+  pub for-pairs : 2 * n ≤ length pairs
+  pub for-work : 512 + 3 * n ≤ length work
 
 abbrev pub roleMade : ℕ → ℕ → List ℕ → List ℕ → Role
 roleMade source on users permissions = record { source = source; on = on; users = users; permissions = permissions }
 
--- a whole role
-pub record Derived (role : Role) (masks : List ℕ) (n : ℕ) (us ps marks : List ℕ) (r : Count) : Type 0 where
+-- a whole role; its marks are the first n places of `work`
+pub record Derived (role : Role) (masks : List ℕ) (n : ℕ) (pairs work : List ℕ) (r : Count) : Type 0 where
   pub few : r .entries ≤ n
   pub few-rows : r .rows ≤ n
   pub count-is : r .entries ≡ length (derivedFrom (keptBy role) [] (take n masks))
-  pub entries-are : entriesTo (role .source) (r .entries) us ps ≡ derivedFrom (keptBy role) [] (take n masks)
-  pub marks-are : take n marks ≡ marksFrom (keptBy role) [] (take n masks)
+  pub entries-are : entriesTo (role .source) (r .entries) pairs ≡ derivedFrom (keptBy role) [] (take n masks)
+  pub marks-are : take n work ≡ marksFrom (keptBy role) [] (take n masks)
   pub rows-are : r .rows ≡ rowsIn (marksFrom (keptBy role) [] (take n masks))
 
 -- a role so far as it was derived: no more than it has, and the whole where the rows are not over the limit
-pub record DerivedTo (limit : ℕ) (role : Role) (masks : List ℕ) (n : ℕ) (us ps marks : List ℕ) (r : Count) : Type 0 where
+pub record DerivedTo (limit : ℕ) (role : Role) (masks : List ℕ) (n : ℕ) (pairs work : List ℕ) (r : Count) : Type 0 where
   pub few : r .entries ≤ n
   pub few-rows : r .rows ≤ n
   pub entries-least : r .entries ≤ length (derivedFrom (keptBy role) [] (take n masks))
   pub rows-least : r .rows ≤ rowsIn (marksFrom (keptBy role) [] (take n masks))
-  pub whole : r .rows ≤ limit → Derived role masks n us ps marks r
+  pub whole : r .rows ≤ limit → Derived role masks n pairs work r

@@ -1,6 +1,6 @@
 // One role's derived roles: the distinct pairs of sets that it has in the fields, in the order in which they come, and which one each field has.
 ghost use mathlib.Core.Path.{_≡_};
-ghost use Prim.Native.Nat.{_+_, _*_, _<_, _≤_};
+ghost use Prim.Native.Nat.{_+_, _*_, _<_};
 ghost use lib.ListN.{length};
 ghost use Rattle.index.specs.Tree.{Within, Indexed};
 ghost use Rattle.derive.specs.Role.{usedIn, unionOf, setsMade, keptWith, Gathered};
@@ -100,21 +100,20 @@ fn no_sets() -> Sets
     }
 }
 
-// The mark of a field: 0 where the role has nothing there, else one more than the place of its two sets, which are among the first d or come next.
+// The mark of a field: 0 where the role has nothing there, else one more than the number of its pair of sets, which is among the first d or comes next.
 fn mark_field(
     source: u8,
     x: Sets,
-    us: &mut [u64],
-    ps: &mut [u64],
+    pairs: &mut [u64],
     links: &mut [u16],
     a: u64,
     b: u64,
     d: usize,
 ) -> usize
-    requires { ⌜ (d < length (now us)) × (d < length (now ps)) × (512 + 2 * d + 1 < length (now links)) × (d < 33345) ⌝ }
-    requires { ⌜ Indexed d (now us) (now ps) (now links) a b × Within (x .users) a × Within (x .permissions) b ⌝ }
-    ensures { λ m. ⌜ Marked source (keptWith source x) d (now (us .entry)) (now (ps .entry)) (now (us .exit)) (now (ps .exit)) m
-        × Indexed (grown d m) (now (us .exit)) (now (ps .exit)) (now (links .exit)) a b ⌝ }
+    requires { ⌜ (2 * d + 1 < length (now pairs)) × (512 + 2 * d + 1 < length (now links)) × (d < 33345) ⌝ }
+    requires { ⌜ Indexed d (now pairs) (now links) a b × Within (x .users) a × Within (x .permissions) b ⌝ }
+    ensures { λ m. ⌜ Marked source (keptWith source x) d (now (pairs .entry)) (now (pairs .exit)) m
+        × Indexed (grown d m) (now (pairs .exit)) (now (links .exit)) a b ⌝ }
 {
     let u = x.users;
     let p = x.permissions;
@@ -124,23 +123,22 @@ fn mark_field(
     if p == 0 {
         return 0;
     }
-    index::enter(source, us, ps, links, a, b, d, u, p) + 1
+    index::enter(source, pairs, links, a, b, d, u, p) + 1
 }
 
-// The marks of the first n masks, and the sets that they are the places of. It stops once it has more than `limit` rows. `links` is scratch for the
-// index of the sets, which goes by the members a and b: all users and all permissions that the role can have.
+// The marks of the first n masks, in the first n places of `work`, and the pairs of sets that they are the numbers of. It stops once it has more than
+// `limit` rows. From place n on `work` is scratch for the index of the pairs, which goes by the members a and b: all users and all permissions that the
+// role can have.
 pub fn derive(
     role: Role,
     masks: &[u64],
     n: usize,
     limit: usize,
-    us: &mut [u64],
-    ps: &mut [u64],
-    marks: &mut [u16],
-    links: &mut [u16],
+    pairs: &mut [u64],
+    work: &mut [u16],
 ) -> Count
-    requires { ⌜ (role .on < 64) × Room n (now masks) (now us) (now ps) (now marks) (now links) ⌝ }
-    ensures { λ r. ⌜ DerivedTo limit role (now (masks .entry)) n (now (us .exit)) (now (ps .exit)) (now (marks .exit)) r ⌝ }
+    requires { ⌜ (role .on < 64) × Room n (now masks) (now pairs) (now work) ⌝ }
+    ensures { λ r. ⌜ DerivedTo limit role (now (masks .entry)) n (now (pairs .exit)) (now (work .exit)) r ⌝ }
 {
     let source = role.source;
     let on = role.on;
@@ -150,7 +148,7 @@ pub fn derive(
     let permission_slots = used_in(&permissions);
     let a = union_in(&users, user_slots, user_slots);
     let b = union_in(&permissions, permission_slots, permission_slots);
-    index::clear(links);
+    index::clear(&mut work[n..]);
     let mut d = 0;
     let mut rows = 0;
     let mut i = 0;
@@ -166,14 +164,14 @@ pub fn derive(
             permission_slots,
             masks[i],
         );
-        let m = mark_field(source, x, us, ps, links, a, b, d);
+        let m = mark_field(source, x, pairs, &mut work[n..], a, b, d);
         if m == d + 1 {
             d += 1;
         }
         if 0 < m {
             rows += 1;
         }
-        marks[i] = m as u16;
+        work[i] = m as u16;
         i += 1;
     }
     Count { entries: d, rows }
