@@ -66,24 +66,24 @@ module _ (s : List ℕ) (clear : rotaJudged s ≡ 0) (r : ℕ) (few : r < rolesO
         = sym (marks-length (keptBy role) [] (take n masks) ∙ ap length are ∙ length-map (fields (rotaOf s)) (maskOf (rotaOf s))) in
         sym (rows-marked base (fields (rotaOf s)) (marksFrom (keptBy role) [] (take n masks)) long) ∙ ap length (marked-all base)
 
-    role-derived : (us ps marks : List ℕ) (k : Count) → Derived role masks n us ps marks k → RoleDerived s r n us ps marks k
+    role-derived : (pairs work : List ℕ) (k : Count) → Derived role masks n pairs work k → RoleDerived s r n pairs work k
     unfolding roleOf
-    role-derived us ps marks k d =
+    role-derived pairs work k d =
         record {
           few = d .few;
           few-rows = d .few-rows;
-          entries-are = ap (λ (x : Role). entriesTo (x .source) (k .entries) us ps) (sym er) ∙ d .entries-are ∙ entries-all;
+          entries-are = ap (λ (x : Role). entriesTo (x .source) (k .entries) pairs) (sym er) ∙ d .entries-are ∙ entries-all;
           rows-are = λ base. ap (rowsMarked base (fields (rotaOf s))) (d .marks-are) ∙ marked-all base;
           entry-count = d .count-is ∙ ap length entries-all;
           row-count = λ base. d .rows-are ∙ rows-all base;
         }
 
-    pub role-derived-to : (limit : ℕ) (us ps marks : List ℕ) (k : Count) → DerivedTo limit role masks n us ps marks k → RoleDerivedTo limit s r n us ps marks k
-    role-derived-to limit us ps marks k d =
+    pub role-derived-to : (limit : ℕ) (pairs work : List ℕ) (k : Count) → DerivedTo limit role masks n pairs work k → RoleDerivedTo limit s r n pairs work k
+    role-derived-to limit pairs work k d =
         record {
           few = d .few;
           few-rows = d .few-rows;
           entries-least = omega (arith, d .entries-least, ap length entries-all);
           rows-least = λ base. omega (arith, d .rows-least, rows-all base);
-          whole = λ h. role-derived us ps marks k (d .whole h);
+          whole = λ h. role-derived pairs work k (d .whole h);
         }

@@ -22,19 +22,19 @@ pub record RowsFit (s : List ℕ) (at n : ℕ) : Type 0 where
 abbrev pub MasksAre : List ℕ → List ℕ → ℕ → Type 0
 MasksAre s masks n = take n masks ≡ map (maskOf (rotaOf s)) (fields (rotaOf s))
 
--- role r's derived roles stand in us and ps, and its rows in marks
-pub record RoleDerived (s : List ℕ) (r n : ℕ) (us ps marks : List ℕ) (k : Count) : Type 0 where
+-- role r's derived roles stand in pairs, and the marks of its rows in the first n places of work
+pub record RoleDerived (s : List ℕ) (r n : ℕ) (pairs work : List ℕ) (k : Count) : Type 0 where
   pub few : k .entries ≤ n
   pub few-rows : k .rows ≤ n
-  pub entries-are : entriesTo r (k .entries) us ps ≡ entriesAt (rotaOf s) r
-  pub rows-are : (base : ℕ) → rowsMarked base (fields (rotaOf s)) (take n marks) ≡ rowsAt (rotaOf s) r base
+  pub entries-are : entriesTo r (k .entries) pairs ≡ entriesAt (rotaOf s) r
+  pub rows-are : (base : ℕ) → rowsMarked base (fields (rotaOf s)) (take n work) ≡ rowsAt (rotaOf s) r base
   pub entry-count : k .entries ≡ length (entriesAt (rotaOf s) r)
   pub row-count : (base : ℕ) → k .rows ≡ length (rowsAt (rotaOf s) r base)
 
 -- so far as the role was derived: no more than it has, and the whole where the rows are not over the limit
-pub record RoleDerivedTo (limit : ℕ) (s : List ℕ) (r n : ℕ) (us ps marks : List ℕ) (k : Count) : Type 0 where
+pub record RoleDerivedTo (limit : ℕ) (s : List ℕ) (r n : ℕ) (pairs work : List ℕ) (k : Count) : Type 0 where
   pub few : k .entries ≤ n
   pub few-rows : k .rows ≤ n
   pub entries-least : k .entries ≤ length (entriesAt (rotaOf s) r)
   pub rows-least : (base : ℕ) → k .rows ≤ length (rowsAt (rotaOf s) r base)
-  pub whole : k .rows ≤ limit → RoleDerived s r n us ps marks k
+  pub whole : k .rows ≤ limit → RoleDerived s r n pairs work k

@@ -56,7 +56,7 @@ fn role_of(s: &[u8], l: Layout, r: u8) -> Role
     }
 }
 
-// The derived roles of role r, and the mark of each of the n fields. It stops once it has more than `limit` rows.
+// The derived roles of role r, in `pairs`, and the mark of each of the n fields, in the first n places of `work`. It stops once it has more than `limit` rows.
 pub fn derive_role(
     s: &[u8],
     l: Layout,
@@ -64,14 +64,12 @@ pub fn derive_role(
     masks: &[u64],
     n: usize,
     limit: usize,
-    us: &mut [u64],
-    ps: &mut [u64],
-    marks: &mut [u16],
-    links: &mut [u16],
+    pairs: &mut [u64],
+    work: &mut [u16],
 ) -> Count
-    requires { ⌜ Located (now s) l × (r < rolesOf (now s)) × Room n (now masks) (now us) (now ps) (now marks) (now links) × MasksAre (now s) (now masks) n ⌝ }
-    ensures { λ k. ⌜ RoleDerivedTo limit (now (s .entry)) r n (now (us .exit)) (now (ps .exit)) (now (marks .exit)) k ⌝ }
+    requires { ⌜ Located (now s) l × (r < rolesOf (now s)) × Room n (now masks) (now pairs) (now work) × MasksAre (now s) (now masks) n ⌝ }
+    ensures { λ k. ⌜ RoleDerivedTo limit (now (s .entry)) r n (now (pairs .exit)) (now (work .exit)) k ⌝ }
 {
     let role = role_of(s, l, r);
-    derive::derive(role, masks, n, limit, us, ps, marks, links)
+    derive::derive(role, masks, n, limit, pairs, work)
 }
