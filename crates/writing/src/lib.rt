@@ -11,14 +11,14 @@ ghost use Rattle.index.specs.Entries.{entriesTo};
 ghost use Rattle.grid.specs.Grid.{Cuts};
 ghost use Rattle.writing.specs.Parts.{cellOf, eraRows, roleRows};
 
-// Writes the first d entries of us and ps.
-pub fn write_entries(out: &mut [u8], at: usize, source: u8, us: &[u64], ps: &[u64], d: usize)
-    requires { ⌜ (at + 17 * d ≤ length (now out)) × (d ≤ length (now us)) × (d ≤ length (now ps)) ⌝ }
-    ensures { λ _. ⌜ now (out .exit) ≡ sets (now (out .entry)) at (joined entryBytes (entriesTo source d (now (us .entry)) (now (ps .entry)))) ⌝ }
+// Writes the first d pairs of sets as entries.
+pub fn write_entries(out: &mut [u8], at: usize, source: u8, pairs: &[u64], d: usize)
+    requires { ⌜ (at + 17 * d ≤ length (now out)) × (2 * d ≤ length (now pairs)) ⌝ }
+    ensures { λ _. ⌜ now (out .exit) ≡ sets (now (out .entry)) at (joined entryBytes (entriesTo source d (now (pairs .entry)))) ⌝ }
 {
     let mut i = 0;
     while i < d {
-        table_parts::write_entry(out, at + 17 * i, source, us[i], ps[i]);
+        table_parts::write_entry(out, at + 17 * i, source, pairs[2 * i], pairs[2 * i + 1]);
         i += 1;
     }
 }
