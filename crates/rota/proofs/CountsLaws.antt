@@ -49,10 +49,11 @@ module _ (s : List ℕ) where
         «permission_rows» = a .permission-rows i;
       }
 
-  pub layout-by : (n : Counts) (at first second : ℕ) → n ≡ countsOf s → at ≡ rolesAt s → first ≡ userRowsAt s → second ≡ permissionRowsAt s
-      → record { counts = n; «roles_at» = at; «user_rows_at» = first; «permission_rows_at» = second } ≡ layoutOf s
+  pub layout-by : (n : Counts) (hours at first second : ℕ) → n ≡ countsOf s → hours ≡ headerLength s → at ≡ rolesAt s → first ≡ userRowsAt s
+      → second ≡ permissionRowsAt s
+      → record { counts = n; «hours_at» = hours; «roles_at» = at; «user_rows_at» = first; «permission_rows_at» = second } ≡ layoutOf s
   unfolding layoutOf
-  layout-by n at first second e p q r = λ i. record { counts = e i; «roles_at» = p i; «user_rows_at» = q i; «permission_rows_at» = r i }
+  layout-by n hours at first second e h p q r = λ i. record { counts = e i; «hours_at» = h i; «roles_at» = p i; «user_rows_at» = q i; «permission_rows_at» = r i }
 
   pub measured : (n : Counts) (at : ℕ) → headerJudged s ≡ 0 → n ≡ countsOf s → at ≡ rolesAt s → at ≤ length s
       → Measured s (n .hours) (n .users) (n .permissions) (n .roles) (n .«user_rows») (n .«permission_rows») at
@@ -70,10 +71,10 @@ module _ (s : List ℕ) where
         within = w;
       }
 
--- the walk over the hours records with the header's own cycle and count
-module _ {s : List ℕ} {n : Counts} (a : CountsAre s n) where
-  pub records-as : {e : ℕ} → e ≡ inTurn (recordJudged s (n .cycle) 12) (n .hours) → e ≡ inTurn (recordJudged s (cycleOf s) headerLength) (hoursOf s)
-  records-as h = rw (a .cycle, a .hours) at h
+-- the walk over the hours records with the header's own cycle, length and count
+module _ {s : List ℕ} {n : Counts} {from : ℕ} (a : CountsAre s n) (b : from ≡ headerLength s) where
+  pub records-as : {e : ℕ} → e ≡ inTurn (recordJudged s (n .cycle) from) (n .hours) → e ≡ inTurn (recordJudged s (cycleOf s) (headerLength s)) (hoursOf s)
+  records-as h = rw (a .cycle, b, a .hours) at h
 
-  pub records-end : {at : ℕ} → at ≡ recordAt s 12 (n .hours) → at ≡ rolesAt s
-  records-end h = rw (a .hours) at h
+  pub records-end : {at : ℕ} → at ≡ recordAt s from (n .hours) → at ≡ rolesAt s
+  records-end h = rw (b, a .hours) at h

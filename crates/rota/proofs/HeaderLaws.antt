@@ -1,13 +1,23 @@
--- The counts of the header, limit by limit.
+-- The header: how long it is, and its counts limit by limit.
+--     header-length, header-long     its length, and the bytes that its counts are read from
 -- Assumes nothing.
 use Prim.Native.Nat.{ℕ, _≤_, _<_}
-use mathlib.Core.Path.{_≡_}
+use mathlib.Core.Path.{_≡_, refl}
 use mathlib.Core.List.{List}
 use mathlib.Core.Bool.{true}
+use native.Mathlib.Omega.{arith}
 use lib.Dec.{ltb}
+use lib.ListN.{length}
 use Rattle.ground.proofs.JudgementLaws.{tests}
-use Rattle.rota.specs.RotaBytes.{hoursOf, usersOf, permissionsOf, rolesOf, userRowsOf, permissionRowsOf}
+use Rattle.rota.specs.RotaBytes.{headerLength, hoursOf, usersOf, permissionsOf, rolesOf, userRowsOf, permissionRowsOf}
 use Rattle.rota.specs.RotaRefusals.{countsOver}
+
+pub header-length : (s : List ℕ) → headerLength s ≡ 12
+unfolding headerLength
+header-length s = refl
+
+pub header-long : (s : List ℕ) {n : ℕ} → n ≡ headerLength s → n ≤ length s → 12 ≤ length s
+header-long s e l = omega (arith, header-length s)
 
 module _ (s : List ℕ) where
   pub over-hours : 32 < hoursOf s → true ≡ countsOver s

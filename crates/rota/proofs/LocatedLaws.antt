@@ -4,7 +4,7 @@ use Prim.Native.Nat.{ℕ}
 use mathlib.Core.Path.{_≡_, ap}
 use mathlib.Core.List.{List}
 use Rattle.ground.specs.Outcome.{given}
-use Rattle.rota.specs.RotaBytes.{rolesAt, userRowsAt, permissionRowsAt}
+use Rattle.rota.specs.RotaBytes.{headerLength, rolesAt, userRowsAt, permissionRowsAt}
 use Rattle.rota.specs.Inside.{layoutOf, layoutOutcome, Located}
 use Rattle.rota.specs.declared.Layout.{Layout}
 use Rattle.rota.proofs.RotaFine.{RotaFine, rota-fine}
@@ -21,6 +21,10 @@ module _ (s : List ℕ) (l : Layout) (w : Located s l) where
   pub counted : CountsAre s (l .counts)
   unfolding layoutOf
   counted = counts-are s (l .counts) (ap (λ (x : Layout). x .counts) (w .layout))
+
+  pub hours-at : l .«hours_at» ≡ headerLength s
+  unfolding layoutOf
+  hours-at = ap (λ (x : Layout). x .«hours_at») (w .layout)
 
   pub roles-at : l .«roles_at» ≡ rolesAt s
   unfolding layoutOf

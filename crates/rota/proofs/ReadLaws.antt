@@ -49,11 +49,11 @@ module _ (s : List ℕ) where
   by-header e j h = refused-as e (rw (← j) (orElse-ne e _ h)) h
 
   module _ (h : headerJudged s ≡ 0) where
-    pub by-records : (e : ℕ) → e ≡ inTurn (recordJudged s (cycleOf s) headerLength) (hoursOf s) → (e ≡ 0 → ⊥) → refused e ≡ layoutOutcome s
+    pub by-records : (e : ℕ) → e ≡ inTurn (recordJudged s (cycleOf s) (headerLength s)) (hoursOf s) → (e ≡ 0 → ⊥) → refused e ≡ layoutOutcome s
     unfolding rotaJudged _orElse_
     by-records e j n = refused-as e (rw (h, ← j) (orElse-ne e _ n)) n
 
-    module _ (r : inTurn (recordJudged s (cycleOf s) headerLength) (hoursOf s) ≡ 0) where
+    module _ (r : inTurn (recordJudged s (cycleOf s) (headerLength s)) (hoursOf s) ≡ 0) where
       rest-is : rotaJudged s ≡ restJudged s
       unfolding rotaJudged restJudged _orElse_
       rest-is = rw (h, r) refl

@@ -23,6 +23,7 @@ use Rattle.hours.proofs.RecordBytesLaws.{ref-spelt, ref-read, read-records, spe
 use Rattle.rota.specs.Rota.{Row, Rota}
 use Rattle.rota.specs.RotaBytes.{headerLength, headerBytes, refBytes, rowBytes, rotaBytes, hoursOf, rolesOf, userRowsOf, permissionRowsOf, rolesAt, userRowsAt, permissionRowsAt, endsAt, rowAtByte, rowAt, rotaOf}
 use Rattle.rota.specs.RotaWell.{RefWell, RowWell, RotaWell}
+use Rattle.rota.proofs.HeaderLaws.{header-length, header-long}
 use Rattle.rota.proofs.RotaWellLaws.{Laid, hours-count, roles-count, user-rows-count, permission-rows-count}
 
 -- reading, where there are h hours records
@@ -63,7 +64,7 @@ read-rota s ρ m w q =
     let q7 = next8 (length (ρ .roles)) _ (q6 .1) in
     let q8 = next16 (length (ρ .user-rows)) _ (q7 .1) in
     let q10 = next16 (length (ρ .permission-rows)) _ (q8 .1) in
-    let hours = rw (← q4 .0) at (read-records headerLength (ρ .hours) _ (q10 .1)) in
+    let hours = rw (← q4 .0) at (read-records (headerLength s) (ρ .hours) _ (rest-to (headerLength s) (sym (header-length s)) (q10 .1))) in
     let roles = rw (← q7 .0) at (read-refs _ few (rolesAt s) (ρ .roles) _ (w .roles) (hours .1)) in
     let user-rows = rw (← q8 .0) at (read-rows _ few _ _ (userRowsAt s) (ρ .user-rows) _ (w .user-rows) (roles .1)) in
     let permission-rows = rw (← q10 .0) at (read-rows _ few _ _ (permissionRowsAt s) (ρ .permission-rows) m (w .permission-rows) (user-rows .1)) in
@@ -74,7 +75,7 @@ read-laid ρ w =
     let s = rotaBytes ρ in
     let q = read-rota s ρ [] w (rw append-nil (rest-whole s)) in
     let ended : length s ≡ endsAt s = rest-none (q .2) in
-    (record { long = omega (arith, recordAt-is s headerLength (hoursOf s)); format = q .0; ended = ended }, q .1)
+    (record { long = omega (arith, recordAt-is s (headerLength s) (hoursOf s)); format = q .0; ended = ended }, q .1)
 
 -- ranges, where there are h hours records
 module _ (h : ℕ) (few : h ≤ 255) where
@@ -129,24 +130,25 @@ module _ (s : List ℕ) (b : Bytes s) where
   unfolding part
   ends n e p = p ∙ rw (← e) (take-length s)
 
-  spell-header : headerLength ≤ length s → u16At s 0 ≡ 1 → headerBytes (rotaOf s) ≡ part 0 headerLength s
+  spell-header : headerLength s ≤ length s → u16At s 0 ≡ 1 → headerBytes (rotaOf s) ≡ part 0 (headerLength s) s
   unfolding headerBytes rotaOf
-  spell-header long format =
-      let one : (i : ℕ) → i < headerLength → bytes8 (u8At s i) ≡ part i 1 s = λ i l. sym (part-one s i (omega arith)) in
+  spell-header l format =
+      let long = header-long s refl l in
+      let one : (i : ℕ) → i < length s → bytes8 (u8At s i) ≡ part i 1 s = λ i l. sym (part-one s i l) in
       let f2 = grown 2 2 (ap bytes16 (sym format) ∙ spell16 s b 0 (omega arith)) (spell16 s b 2 (omega arith)) in
       let f4 = grown 4 1 f2 (ap bytes8 (hours-count s) ∙ one 4 (omega arith)) in
       let f5 = grown 5 1 f4 (one 5 (omega arith)) in
       let f6 = grown 6 1 f5 (one 6 (omega arith)) in
       let f7 = grown 7 1 f6 (ap bytes8 (roles-count s) ∙ one 7 (omega arith)) in
       let f8 = grown 8 2 f7 (ap bytes16 (user-rows-count s) ∙ spell16 s b 8 (omega arith)) in
-      grown 10 2 f8 (ap bytes16 (permission-rows-count s) ∙ spell16 s b 10 (omega arith))
+      grown 10 2 f8 (ap bytes16 (permission-rows-count s) ∙ spell16 s b 10 (omega arith)) ∙ ap (λ (n : ℕ). part 0 n s) (sym (header-length s))
 
   pub spell-rota : Laid s → rotaBytes (rotaOf s) ≡ s
   unfolding rotaBytes rotaOf
   spell-rota d =
       let ended = d .ended in
-      let hours = grown headerLength _ (spell-header (d .long) (d .format)) (spell-records s b headerLength (hoursOf s) (omega arith)) in
-      let roles = grown (rolesAt s) _ (rw (← recordAt-is s headerLength (hoursOf s)) at hours) (spell-refs (rolesAt s) (rolesOf s) (omega arith)) in
+      let hours = grown (headerLength s) _ (spell-header (d .long) (d .format)) (spell-records s b (headerLength s) (hoursOf s) (omega arith)) in
+      let roles = grown (rolesAt s) _ (rw (← recordAt-is s (headerLength s) (hoursOf s)) at hours) (spell-refs (rolesAt s) (rolesOf s) (omega arith)) in
       let user-rows = grown (userRowsAt s) _ roles (spell-rows (userRowsAt s) (userRowsOf s) (omega arith)) in
       let permission-rows = grown (permissionRowsAt s) _ user-rows (spell-rows (permissionRowsAt s) (permissionRowsOf s) (omega arith)) in
       ends (endsAt s) ended permission-rows

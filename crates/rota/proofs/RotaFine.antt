@@ -18,7 +18,7 @@ use Rattle.rota.specs.RotaWell.{RowWell}
 
 -- the header is not refused
 pub record HeaderFine (s : List ℕ) : Type 0 where
-  pub long : headerLength ≤ length s
+  pub long : headerLength s ≤ length s
   pub format : u16At s 0 ≡ 1
   pub cycle-some : 0 < cycleOf s
   pub cycle-most : cycleOf s ≤ 40320
@@ -35,7 +35,7 @@ RowFine s top at k = RowWell top (rolesOf s) (hoursOf s) (rowAt s at k)
 
 pub record RotaFine (s : List ℕ) : Type 0 where
   pub header : HeaderFine s
-  pub records : inTurn (recordJudged s (cycleOf s) headerLength) (hoursOf s) ≡ 0
+  pub records : inTurn (recordJudged s (cycleOf s) (headerLength s)) (hoursOf s) ≡ 0
   pub ended : length s ≡ endsAt s
   pub roles : (k : ℕ) → k < rolesOf s → dangling (hoursOf s) (roleRef s k) ≡ false
   pub user-rows : (k : ℕ) → k < userRowsOf s → RowFine s (usersOf s) (userRowsAt s) k

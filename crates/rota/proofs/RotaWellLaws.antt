@@ -22,7 +22,7 @@ use Rattle.rota.proofs.RotaFine.{HeaderFine, RowFine, RotaFine, rota-fi
 
 -- the bytes have a header of format 1, and end where its counts and the records say
 pub record Laid (s : List ℕ) : Type 0 where
-  pub long : headerLength ≤ length s
+  pub long : headerLength s ≤ length s
   pub format : u16At s 0 ≡ 1
   pub ended : length s ≡ endsAt s
 
@@ -49,7 +49,7 @@ module _ (s : List ℕ) where
   unfolding rotaOf
   fine-well f =
       let h = f .header in
-      let records = records-iff s (cycleOf s) headerLength (hoursOf s) (omega (arith, f .ended)) .0 (f .records) in
+      let records = records-iff s (cycleOf s) (headerLength s) (hoursOf s) (omega (arith, f .ended)) .0 (f .records) in
       record {
         cycle-some = h .cycle-some;
         cycle-most = h .cycle-most;
@@ -84,7 +84,7 @@ module _ (s : List ℕ) where
               user-rows-most = rw user-rows-count at (w .user-rows-most);
               permission-rows-most = rw permission-rows-count at (w .permission-rows-most);
             };
-        records = records-iff s (cycleOf s) headerLength (hoursOf s) (omega (arith, d .ended)) .1 (w .hours, w .pairs-most);
+        records = records-iff s (cycleOf s) (headerLength s) (hoursOf s) (omega (arith, d .ended)) .1 (w .hours, w .pairs-most);
         ended = d .ended;
         roles = listOf-all _ _ _ (rw hours-count at (w .roles));
         user-rows = listOf-all _ _ _ (rw (hours-count, roles-count) at (w .user-rows));

@@ -7,18 +7,19 @@ use lib.Dec.{eqb}
 use lib.ListN.{length}
 use Rattle.ground.specs.Judgement.{refuse, _orElse_, inTurn}
 use Rattle.ground.specs.Outcome.{Outcome, refused, given, outcome}
-use Rattle.rota.specs.RotaBytes.{hoursOf, usersOf, permissionsOf, rolesOf, userRowsOf, permissionRowsOf, rolesAt, userRowsAt, permissionRowsAt, endsAt}
+use Rattle.rota.specs.RotaBytes.{headerLength, hoursOf, usersOf, permissionsOf, rolesOf, userRowsOf, permissionRowsOf, rolesAt, userRowsAt, permissionRowsAt, endsAt}
 use Rattle.rota.specs.RotaRefusals.{headerJudged, roleJudged, rowJudged, rotaJudged}
 use Rattle.rota.specs.Answers.{countsOf}
 use Rattle.rota.specs.declared.Layout.{Layout}
 use Rattle.rota.specs.declared.LayoutAnswer.{LayoutAnswer}
 use Rattle.rota.specs.declared.LayoutAnswer.the-variants.{Accepted, Refused}
 
--- the counts, and where role bytes and rows begin
+-- the counts, and where hours records, role bytes and rows begin
 unfoldable pub layoutOf : List ℕ → Layout
 layoutOf s =
     record {
       counts = countsOf s;
+      «hours_at» = headerLength s;
       «roles_at» = rolesAt s;
       «user_rows_at» = userRowsAt s;
       «permission_rows_at» = permissionRowsAt s;

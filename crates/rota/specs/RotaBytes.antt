@@ -26,9 +26,9 @@ rotaBytes ρ =
     headerBytes ρ ++ joined hoursBytes (ρ .hours) ++ joined refBytes (ρ .roles) ++ joined rowBytes (ρ .user-rows)
     ++ joined rowBytes (ρ .permission-rows)
 
--- what bytes spell: the header's length and fields
-abbrev pub headerLength : ℕ
-headerLength = 12
+-- what bytes spell: the header's length, which is for the format to say, and its fields
+unfoldable pub headerLength : List ℕ → ℕ
+headerLength s = 12
 
 abbrev pub cycleOf : List ℕ → ℕ
 cycleOf s = u16At s 2
@@ -53,7 +53,7 @@ permissionRowsOf s = u16At s 10
 
 -- where the role bytes and the rows begin, and where the rota ends
 abbrev pub rolesAt : List ℕ → ℕ
-rolesAt s = recordAt s headerLength (hoursOf s)
+rolesAt s = recordAt s (headerLength s) (hoursOf s)
 
 abbrev pub userRowsAt : List ℕ → ℕ
 userRowsAt s = rolesAt s + rolesOf s
@@ -80,7 +80,7 @@ rotaOf s =
       cycle = cycleOf s;
       users = usersOf s;
       permissions = permissionsOf s;
-      hours = hoursFrom s headerLength (hoursOf s);
+      hours = hoursFrom s (headerLength s) (hoursOf s);
       roles = listOf (rolesOf s) (roleRef s);
       user-rows = listOf (userRowsOf s) (rowAt s (userRowsAt s));
       permission-rows = listOf (permissionRowsOf s) (rowAt s (permissionRowsAt s));

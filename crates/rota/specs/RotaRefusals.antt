@@ -19,7 +19,7 @@ countsOver s =
 
 unfoldable pub headerJudged : List ℕ → ℕ
 headerJudged s =
-    refuse 1 (ltb (length s) headerLength)
+    refuse 1 (ltb (length s) (headerLength s))
     orElse refuse 2 (not (eqb (u16At s 0) 1))
     orElse refuse 3 (eqb (cycleOf s) 0 || ltb 40320 (cycleOf s))
     orElse refuse 4 (countsOver s)
@@ -40,7 +40,7 @@ rowJudged n top s at k = refuse n (rowBad top (rolesOf s) (hoursOf s) (rowAt s a
 unfoldable pub rotaJudged : List ℕ → ℕ
 rotaJudged s =
     headerJudged s
-    orElse inTurn (recordJudged s (cycleOf s) headerLength) (hoursOf s)
+    orElse inTurn (recordJudged s (cycleOf s) (headerLength s)) (hoursOf s)
     orElse refuse 9 (not (eqb (length s) (endsAt s)))
     orElse inTurn (roleJudged s) (rolesOf s)
     orElse inTurn (rowJudged 11 (usersOf s) s (userRowsAt s)) (userRowsOf s)

@@ -3,7 +3,7 @@ ghost use mathlib.Core.Path.{_≡_};
 ghost use Prim.Native.Nat.{_+_, _*_, _≤_};
 ghost use lib.ListN.{length};
 ghost use Rattle.ground.specs.Judgement.{inTurn};
-ghost use Rattle.rota.specs.RotaBytes.{rolesAt, rolesOf, hoursOf};
+ghost use Rattle.rota.specs.RotaBytes.{headerLength, rolesAt, rolesOf, hoursOf};
 ghost use Rattle.rota.specs.RotaRefusals.{countsOver, headerJudged, roleJudged, rowJudged};
 ghost use Rattle.rota.specs.Answers.{rotaGiven, readOutcome, countsOf};
 ghost use Rattle.rota.specs.Inside.{layoutGiven, layoutOutcome, restJudged, Measured};
@@ -26,9 +26,10 @@ pub enum RotaAnswer {
     Refused(u8),
 }
 
-// The counts of an accepted rota, and where its role bytes and rows begin.
+// The counts of an accepted rota, and where its hours records, role bytes and rows begin.
 pub struct Layout {
     pub counts: Counts,
+    pub hours_at: usize,
     pub roles_at: usize,
     pub user_rows_at: usize,
     pub permission_rows_at: usize,
@@ -39,9 +40,16 @@ pub enum LayoutAnswer {
     Refused(u8),
 }
 
+// How many bytes the header has: hours records begin behind it.
+fn header_length(s: &[u8]) -> usize
+    ensures { λ r. ⌜ r ≡ headerLength (now (s .entry)) ⌝ }
+{
+    12
+}
+
 // Whether one of the header's counts is over its limit.
 fn counts_over(s: &[u8]) -> bool
-    requires { ⌜ 12 ≤ length (now s) ⌝ }
+    requires { ⌜ headerLength (now s) ≤ length (now s) ⌝ }
     ensures { λ r. ⌜ r ≡ countsOver (now (s .entry)) ⌝ }
 {
     if 32 < endian::read8(s, 4) {
@@ -66,7 +74,7 @@ fn counts_over(s: &[u8]) -> bool
 fn judge_header(s: &[u8]) -> u8
     ensures { λ r. ⌜ r ≡ headerJudged (now (s .entry)) ⌝ }
 {
-    if s.len() < 12 {
+    if s.len() < header_length(s) {
         return 1;
     }
     if endian::read16(s, 0) != 1 {
@@ -144,7 +152,7 @@ fn judge_rest(
 
 // The counts of the header.
 fn read_counts(s: &[u8]) -> Counts
-    requires { ⌜ 12 ≤ length (now s) ⌝ }
+    requires { ⌜ headerLength (now s) ≤ length (now s) ⌝ }
     ensures { λ r. ⌜ r ≡ countsOf (now (s .entry)) ⌝ }
 {
     Counts {
@@ -168,7 +176,8 @@ pub fn locate(s: &[u8]) -> LayoutAnswer
     }
     let n = read_counts(s);
     let h = n.hours as usize;
-    let w = hours::judge_all(s, n.cycle, 12, h);
+    let hours_at = header_length(s);
+    let w = hours::judge_all(s, n.cycle, hours_at, h);
     let code = w.code;
     if code != 0 {
         return LayoutAnswer::Refused(code);
@@ -192,6 +201,7 @@ pub fn locate(s: &[u8]) -> LayoutAnswer
     let first = at + roles;
     LayoutAnswer::Accepted(Layout {
         counts: n,
+        hours_at,
         roles_at: at,
         user_rows_at: first,
         permission_rows_at: first + 3 * user_rows,

@@ -20,11 +20,18 @@ read-counts-requires c κs = header-fine _ (sym (c .before .judge-header .ensure
 cast-h : tie.Need-cast-h
 cast-h c = search needs
 
+header-length-requires : tie.Need-header-length-requires
+header-length-requires c κs = search needs
+
 judge-all-requires : tie.Need-judge-all-requires
-judge-all-requires c κs = header-fine _ (sym (c .before .before .before .judge-header .ensures) ∙ c .before .before .if1 .left) .long
+judge-all-requires c κs =
+    let h = header-fine _ (sym (c .before .before .before .before .judge-header .ensures) ∙ c .before .before .before .if1 .left) in
+    omega (arith, h .long, c .header-length .ensures)
 
 returns-2 : tie.Need-returns-2
-returns-2 c = by-records _ (sym (c .before .before .before .before .before .judge-header .ensures) ∙ c .before .before .before .before .if1 .left) _ (records-as (counts-are _ _ (c .before .before .before .read-counts .ensures)) (c .before .judge-all .ensures .judged)) (c .if2 .taken)
+returns-2 c =
+    let n = counts-are _ _ (c .before .before .before .before .read-counts .ensures) in
+    by-records _ (sym (c .before .before .before .before .before .before .judge-header .ensures) ∙ c .before .before .before .before .before .if1 .left) _ (records-as n (c .before .before .header-length .ensures) (c .before .judge-all .ensures .judged)) (c .if2 .taken)
 
 cast-roles : tie.Need-cast-roles
 cast-roles c = search needs
@@ -42,22 +49,41 @@ cast-judge-rest-3 : tie.Need-cast-judge-rest-3
 cast-judge-rest-3 c = search needs
 
 judge-rest-requires : tie.Need-judge-rest-requires
-judge-rest-requires c κs = measured _ _ _ (sym (c .before .before .before .before .before .before .before .before .before .before .judge-header .ensures) ∙ c .before .before .before .before .before .before .before .before .before .if1 .left) (c .before .before .before .before .before .before .before .before .read-counts .ensures) (records-end (counts-are _ _ (c .before .before .before .before .before .before .before .before .read-counts .ensures)) (c .before .before .before .before .before .before .judge-all .ensures .ends (c .before .before .before .before .before .if2 .left))) (c .before .before .before .before .before .before .judge-all .ensures .within)
+judge-rest-requires c κs =
+    let n = counts-are _ _ (c .before .before .before .before .before .before .before .before .before .read-counts .ensures) in
+    let w = c .before .before .before .before .before .before .judge-all .ensures in
+    measured _ _ _ (sym (c .before .before .before .before .before .before .before .before .before .before .before .judge-header .ensures) ∙ c .before .before .before .before .before .before .before .before .before .before .if1 .left) (c .before .before .before .before .before .before .before .before .before .read-counts .ensures) (records-end n (c .before .before .before .before .before .before .before .header-length .ensures) (w .ends (c .before .before .before .before .before .if2 .left))) (w .within)
 
 returns-3 : tie.Need-returns-3
-returns-3 c = by-rest _ (sym (c .before .before .before .before .before .before .before .before .before .before .before .before .judge-header .ensures) ∙ c .before .before .before .before .before .before .before .before .before .before .before .if1 .left) (sym (records-as (counts-are _ _ (c .before .before .before .before .before .before .before .before .before .before .read-counts .ensures)) (c .before .before .before .before .before .before .before .before .judge-all .ensures .judged)) ∙ c .before .before .before .before .before .before .before .if2 .left) _ (c .before .judge-rest .ensures) (c .if3 .taken)
+returns-3 c =
+    let n = counts-are _ _ (c .before .before .before .before .before .before .before .before .before .before .before .read-counts .ensures) in
+    let r = sym (records-as n (c .before .before .before .before .before .before .before .before .before .header-length .ensures) (c .before .before .before .before .before .before .before .before .judge-all .ensures .judged)) ∙ c .before .before .before .before .before .before .before .if2 .left in
+    by-rest _ (sym (c .before .before .before .before .before .before .before .before .before .before .before .before .before .judge-header .ensures) ∙ c .before .before .before .before .before .before .before .before .before .before .before .before .if1 .left) r _ (c .before .judge-rest .ensures) (c .if3 .taken)
 
 add-first : tie.Need-add-first
-add-first c = omega (arith, c .before .before .before .before .before .before .before .before .before .before .before .before .before .before .good, header-fine _ (sym (c .before .before .before .before .before .before .before .before .before .before .before .before .judge-header .ensures) ∙ c .before .before .before .before .before .before .before .before .before .before .before .if1 .left), counts-are _ _ (c .before .before .before .before .before .before .before .before .before .before .read-counts .ensures), c .before .before .before .before .before .before .before .before .judge-all .ensures .within)
+add-first c =
+    let h = header-fine _ (sym (c .before .before .before .before .before .before .before .before .before .before .before .before .before .judge-header .ensures) ∙ c .before .before .before .before .before .before .before .before .before .before .before .before .if1 .left) in
+    let n = counts-are _ _ (c .before .before .before .before .before .before .before .before .before .before .before .read-counts .ensures) in
+    omega (arith, c .before .before .before .before .before .before .before .before .before .before .before .before .before .before .before .good, h, n, c .before .before .before .before .before .before .before .before .judge-all .ensures .within)
 
-mul-t15 : tie.Need-mul-t15
-mul-t15 c = search needs
+mul-t16 : tie.Need-mul-t16
+mul-t16 c = search needs
 
-add-t13 : tie.Need-add-t13
-add-t13 c = omega (arith, c .before .before .before .before .before .before .before .before .before .before .before .before .before .before .good, header-fine _ (sym (c .before .before .before .before .before .before .before .before .before .before .before .before .judge-header .ensures) ∙ c .before .before .before .before .before .before .before .before .before .before .before .if1 .left), counts-are _ _ (c .before .before .before .before .before .before .before .before .before .before .read-counts .ensures), c .before .before .before .before .before .before .before .before .judge-all .ensures .within)
+add-t14 : tie.Need-add-t14
+add-t14 c =
+    let h = header-fine _ (sym (c .before .before .before .before .before .before .before .before .before .before .before .before .before .judge-header .ensures) ∙ c .before .before .before .before .before .before .before .before .before .before .before .before .if1 .left) in
+    let n = counts-are _ _ (c .before .before .before .before .before .before .before .before .before .before .before .read-counts .ensures) in
+    omega (arith, c .before .before .before .before .before .before .before .before .before .before .before .before .before .before .before .good, h, n, c .before .before .before .before .before .before .before .before .judge-all .ensures .within)
 
 returns-4 : tie.Need-returns-4
-returns-4 c = let n = counts-are _ _ (c .before .before .before .before .before .before .before .before .before .before .read-counts .ensures) in let e = records-end n (c .before .before .before .before .before .before .before .before .judge-all .ensures .ends (c .before .before .before .before .before .before .before .if2 .left)) in accepted _ (sym (c .before .before .before .before .before .before .before .before .before .before .before .before .judge-header .ensures) ∙ c .before .before .before .before .before .before .before .before .before .before .before .if1 .left) (sym (records-as (counts-are _ _ (c .before .before .before .before .before .before .before .before .before .before .read-counts .ensures)) (c .before .before .before .before .before .before .before .before .judge-all .ensures .judged)) ∙ c .before .before .before .before .before .before .before .if2 .left) _ _ (c .before .judge-rest .ensures) (c .if3 .left) (layout-by _ _ _ _ _ (c .before .before .before .before .before .before .before .before .before .before .read-counts .ensures) e (omega (arith, e, n .roles)) (omega (arith, e, n .roles, n .user-rows)))
+returns-4 c =
+    let n = counts-are _ _ (c .before .before .before .before .before .before .before .before .before .before .before .read-counts .ensures) in
+    let s = c .before .before .before .before .before .before .before .before .before .header-length .ensures in
+    let w = c .before .before .before .before .before .before .before .before .judge-all .ensures in
+    let z = c .before .before .before .before .before .before .before .if2 .left in
+    let e = records-end n s (w .ends z) in
+    accepted _ (sym (c .before .before .before .before .before .before .before .before .before .before .before .before .before .judge-header .ensures) ∙ c .before .before .before .before .before .before .before .before .before .before .before .before .if1 .left) (sym (records-as n s (w .judged)) ∙ z) _ _ (c .before .judge-rest .ensures) (c .if3 .left)
+    (layout-by _ _ _ _ _ _ (c .before .before .before .before .before .before .before .before .before .before .before .read-counts .ensures) s e (omega (arith, e, n .roles)) (omega (arith, e, n .roles, n .user-rows)))
 
 pub locate-spec : {M : Type 1} → statement M
 locate-spec =
@@ -67,6 +93,7 @@ locate-spec =
     returns
     read-counts-requires
     cast-h
+    header-length-requires
     judge-all-requires
     returns-2
     cast-roles
@@ -77,6 +104,6 @@ locate-spec =
     judge-rest-requires
     returns-3
     add-first
-    mul-t15
-    add-t13
+    mul-t16
+    add-t14
     returns-4)
