@@ -32,6 +32,9 @@ module _ (s : List ℕ) (l : Layout) (w : Located s l) where
   counted : CountsAre s (l .counts)
   counted = located.counted s l w
 
+  hours-at : l .«hours_at» ≡ headerLength s
+  hours-at = located.hours-at s l w
+
   roles-at : l .«roles_at» ≡ rolesAt s
   roles-at = located.roles-at s l w
 
@@ -47,8 +50,8 @@ module _ (s : List ℕ) (l : Layout) (w : Located s l) where
   pub some-cycle : 0 < l .counts .cycle
   some-cycle = omega (arith, counted .cycle, fine .header .cycle-some)
 
-  pub records-fine : inTurn (recordJudged s (l .counts .cycle) 12) (l .counts .hours) ≡ 0
-  records-fine = rw (counted .cycle, counted .hours) (fine .records)
+  pub records-fine : inTurn (recordJudged s (l .counts .cycle) (l .«hours_at»)) (l .counts .hours) ≡ 0
+  records-fine = rw (counted .cycle, hours-at, counted .hours) (fine .records)
 
   pub roles-fine : RolesFine s (l .«roles_at») (l .counts .roles)
   roles-fine =
@@ -81,11 +84,11 @@ module _ (s : List ℕ) (l : Layout) (w : Located s l) where
     question-as u p a b c d e ea eb ec ed ee =
         ee ∙ ap₂ intersection (ed ∙ ap₂ intersection (enabled-as a ea) (rw (user-rows-at, counted .user-rows) at eb)) (rw (permission-rows-at, counted .permission-rows) at ec)
 
-    pub held-as : (t : ℕ) → set ≡ holding s (l .counts .cycle) 12 (l .counts .hours) t → set ≡ holding s (cycleOf s) headerLength (hoursOf s) t
-    held-as t e = rw (counted .cycle, counted .hours) at e
+    pub held-as : (t : ℕ) → set ≡ holding s (l .counts .cycle) (l .«hours_at») (l .counts .hours) t → set ≡ holding s (cycleOf s) (headerLength s) (hoursOf s) t
+    held-as t e = rw (counted .cycle, hours-at, counted .hours) at e
 
     -- the answer
-    module _ (t : ℕ) (early : t < E) (es : set ≡ holding s (l .counts .cycle) 12 (l .counts .hours) t) where
+    module _ (t : ℕ) (early : t < E) (es : set ≡ holding s (l .counts .cycle) (l .«hours_at») (l .counts .hours) t) where
       roles-as : (u p x : ℕ) → x ≡ questionRoles s set u p → x ≡ setOf (rolesOf s) (through (rotaOf s) u p t)
       unfolding questionRoles
       roles-as u p x e = e ∙ through-is s t set (w .accepted) early (held-as t es) u p

@@ -38,7 +38,7 @@ module _ (s : List ℕ) (acc : rotaJudged s ≡ 0) where
   pub permission-rows-of : RowsFine s (permissionsOf s) (permissionRowsAt s) (permissionRowsOf s)
   permission-rows-of = let f = rota-fine s acc in record { within = omega (arith, f .ended); each = f .permission-rows }
 
-module _ (s : List ℕ) (t set : ℕ) (acc : rotaJudged s ≡ 0) (early : t < E) (es : set ≡ holding s (cycleOf s) headerLength (hoursOf s) t) where
+module _ (s : List ℕ) (t set : ℕ) (acc : rotaJudged s ≡ 0) (early : t < E) (es : set ≡ holding s (cycleOf s) (headerLength s) (hoursOf s) t) where
   fine : RotaFine s
   fine = rota-fine s acc
 

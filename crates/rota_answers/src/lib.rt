@@ -154,7 +154,7 @@ pub fn answer_in(s: &[u8], l: Layout, u: u32, p: u32, t: u32) -> Answer
     ensures { λ r. ⌜ answerGiven r ≡ given (answer (rotaOf (now (s .entry))) u p t) ⌝ }
 {
     let n = l.counts;
-    let set = hours::holding_at(s, n.cycle, 12, n.hours as usize, t);
+    let set = hours::holding_at(s, n.cycle, l.hours_at, n.hours as usize, t);
     let roles = question_roles(s, l, set, u, p);
     if roles == 0 {
         Answer::No
@@ -170,7 +170,7 @@ pub fn holders_in(s: &[u8], l: Layout, t: u32) -> u64
 {
     let n = l.counts;
     let h = n.hours as usize;
-    let set = hours::holding_at(s, n.cycle, 12, h, t);
+    let set = hours::holding_at(s, n.cycle, l.hours_at, h, t);
     let on = roles_enabled(s, h, set, l.roles_at, n.roles as usize);
     let given = roles_assigned(
         s,
