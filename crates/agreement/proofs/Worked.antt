@@ -19,7 +19,7 @@ use Rattle.hours.specs.HoursBytes.{recordAt, pairsBefore, hoursFrom}
 use Rattle.hours.specs.HoursRefusals.{earliest, pairJudged, hoursJudged, recordJudged}
 use Rattle.policy.specs.Policy.{holdsAny}
 use Rattle.rota.specs.Rota.{Rota, enabled, assigned, hasUser, hasPermission, through, answer}
-use Rattle.rota.specs.RotaBytes.{rotaOf}
+use Rattle.rota.specs.RotaBytes.{headerLength, rotaOf}
 use Rattle.rota.specs.RotaRefusals.{countsOver, headerJudged, roleJudged, rowBad, rowJudged, rotaJudged}
 use Rattle.rota.specs.RotaWell.{RotaWell}
 use Rattle.rota.proofs.RotaTheorems.{accepted-well}
@@ -40,7 +40,7 @@ use Rattle.agreement.specs.Worked.{Worked}
 
 -- opens every definition that an example computes through
 unfoldable opened : Unit {0}
-unfolding E inPhase any anyBelow firstOf lowestBelow countBelow listOf u16At u32At holds refHolds refOf dangling recordAt pairsBefore hoursFrom earliest pairJudged hoursJudged recordJudged refuse _orElse_ inTurn enabled assigned hasUser hasPermission through answer rotaOf countsOver headerJudged roleJudged rowBad rowJudged rotaJudged holdsAny has setOf insert remove difference count insertCut sortInto gapsFrom gaps addNew addAll placeOf hoursCuts pairCuts pairsCuts eraCuts cellCuts fieldsOf fields firstIn maskOf slotOf assignedIn usersIn permissionsIn keptIn nextEntries markOf derivedFrom marksFrom rowsMarked staying stateJudged advanceJudged openJudged callJudged given-by left-by settled stepBy machineStep
+unfolding E inPhase any anyBelow firstOf lowestBelow countBelow listOf u16At u32At holds refHolds refOf dangling recordAt pairsBefore hoursFrom earliest pairJudged hoursJudged recordJudged refuse _orElse_ inTurn enabled assigned hasUser hasPermission through answer headerLength rotaOf countsOver headerJudged roleJudged rowBad rowJudged rotaJudged holdsAny has setOf insert remove difference count insertCut sortInto gapsFrom gaps addNew addAll placeOf hoursCuts pairCuts pairsCuts eraCuts cellCuts fieldsOf fields firstIn maskOf slotOf assignedIn usersIn permissionsIn keptIn nextEntries markOf derivedFrom marksFrom rowsMarked staying stateJudged advanceJudged openJudged callJudged given-by left-by settled stepBy machineStep
 opened = tt
 
 abbrev ρ : Rota

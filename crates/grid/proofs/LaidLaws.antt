@@ -77,7 +77,7 @@ module _ (s : List ℕ) (ok : rotaJudged s ≡ 0) where
   holding-is : (era cell : Gap) → List·Memᴰ era (gaps (eraCuts (rotaOf s))) → List·Memᴰ cell (gaps (cellCuts (rotaOf s))) → (t : ℕ) → Inside era t
       → Inside cell (t % cycleOf s)
       → setOf (length (rotaOf s .hours)) (λ k. holds (rotaOf s .cycle) (getD (rotaOf s .hours) k never) t)
-      ≡ intersection (recordsThat s headerLength (hoursOf s) (datesHold (era .low))) (recordsThat s headerLength (hoursOf s) (pairsHold (cell .low)))
+      ≡ intersection (recordsThat s (headerLength s) (hoursOf s) (datesHold (era .low))) (recordsThat s (headerLength s) (hoursOf s) (pairsHold (cell .low)))
   unfolding rotaOf hoursFrom recordsThat
   holding-is era cell m n t a b =
       ap (λ (n : ℕ). setOf n (λ k. holds (cycleOf s) (getD (listOf (hoursOf s) (hoursNo s)) k never) t)) (listOf-length (hoursOf s) (hoursNo s))
@@ -89,7 +89,7 @@ module _ (s : List ℕ) (ok : rotaJudged s ≡ 0) where
 
   module _ (eras cells : List ℕ) (ne nc : ℕ) (ce : Cuts (eraCuts (rotaOf s)) eras ne E) (cc : Cuts (cellCuts (rotaOf s)) cells nc (cycleOf s)) where
     pub mask-is : (i j : ℕ) → i < ne → j < nc
-        → fieldMask (cycleOf s) (recordsThat s headerLength (hoursOf s) (datesHold (getD eras i 0))) (recordsThat s headerLength (hoursOf s) (pairsHold (getD cells j 0)))
+        → fieldMask (cycleOf s) (recordsThat s (headerLength s) (hoursOf s) (datesHold (getD eras i 0))) (recordsThat s (headerLength s) (hoursOf s) (pairsHold (getD cells j 0)))
         (getD eras i 0) (getD eras (i + 1) 0) (getD cells j 0) (getD cells (j + 1) 0)
         ≡ maskOf (rotaOf s) (fieldOf (gapAt eras i) (gapAt cells j))
     unfolding rotaOf
@@ -108,7 +108,7 @@ module _ (s : List ℕ) (ok : rotaJudged s ≡ 0) where
         (first-left (cycleOf s) b o f pos oe ec, first-right (cycleOf s) b o f pos oe ec))
 
     -- the masks of one era
-    row-is : (i dates : ℕ) (pairs : List ℕ) → i < ne → dates ≡ recordsThat s headerLength (hoursOf s) (datesHold (getD eras i 0)) → InCells s (hoursOf s) cells nc pairs
+    row-is : (i dates : ℕ) (pairs : List ℕ) → i < ne → dates ≡ recordsThat s (headerLength s) (hoursOf s) (datesHold (getD eras i 0)) → InCells s (hoursOf s) cells nc pairs
         → listOf nc (maskIn (cycleOf s) dates (getD eras i 0) (getD eras (i + 1) 0) cells pairs)
         ≡ map (maskOf (rotaOf s)) (map (fieldOf (gapAt eras i)) (gaps (cellCuts (rotaOf s))))
     unfolding maskIn
@@ -118,7 +118,7 @@ module _ (s : List ℕ) (ok : rotaJudged s ≡ 0) where
         ∙ ap (map (maskOf (rotaOf s))) (sym (map-listOf (fieldOf (gapAt eras i)) nc (gapAt cells)) ∙ ap (map (fieldOf (gapAt eras i))) (sym (gaps-at _ cells nc (cc .long) (cc .are))))
 
     module _ {i first : ℕ} {masks : List ℕ} (w : Written s eras ne nc i first masks) where
-      pub written-more : {cycle h dates : ℕ} {pairs after : List ℕ} → i < ne → cycle ≡ cycleOf s → h ≡ hoursOf s → dates ≡ recordsThat s headerLength h (datesHold (getD eras i 0))
+      pub written-more : {cycle h dates : ℕ} {pairs after : List ℕ} → i < ne → cycle ≡ cycleOf s → h ≡ hoursOf s → dates ≡ recordsThat s (headerLength s) h (datesHold (getD eras i 0))
           → InCells s h cells nc pairs
           → take (first + nc) after ≡ take first masks ++ listOf nc (maskIn cycle dates (getD eras i 0) (getD eras (i + 1) 0) cells pairs)
           → Written s eras ne nc (i + 1) (first + nc) after

@@ -35,10 +35,10 @@ module _ (s : List ℕ) (h : ℕ) (cells : List ℕ) where
   pub in-cells-none : (l : List ℕ) → InCells s h cells 0 l
   in-cells-none l = record { each = λ j k. absurd (not-suc-le-zero k) }
 
-  pub in-cells-more : (n v : ℕ) (l : List ℕ) → InCells s h cells n l → n < length l → v ≡ recordsThat s headerLength h (pairsHold (getD cells n 0)) → InCells s h cells (n + 1) (set l n v)
+  pub in-cells-more : (n v : ℕ) (l : List ℕ) → InCells s h cells n l → n < length l → v ≡ recordsThat s (headerLength s) h (pairsHold (getD cells n 0)) → InCells s h cells (n + 1) (set l n v)
   in-cells-more n v l p k ev = record { each = each }
     where
-      each : (j : ℕ) → j < n + 1 → getD (set l n v) j 0 ≡ recordsThat s headerLength h (pairsHold (getD cells j 0))
+      each : (j : ℕ) → j < n + 1 → getD (set l n v) j 0 ≡ recordsThat s (headerLength s) h (pairsHold (getD cells j 0))
       each j m =
           ⊎-elim
           (λ (e : j ≡ n). rw e (getD-set-same l n v 0 k ∙ ev))

@@ -33,7 +33,7 @@ pub record Added (a : List ℕ) (n : ℕ) (vs b : List ℕ) (m : ℕ) : Type 0 w
 
 -- record k of a rota's bytes
 abbrev pub hoursNo : List ℕ → ℕ → Hours
-hoursNo s k = hoursAt s (recordAt s headerLength k)
+hoursNo s k = hoursAt s (recordAt s (headerLength s) k)
 
 -- the mask of the field with the era from b to e and the cell from o to f, by the records whose dates hold in the era and those whose pairs hold
 -- in the cell
@@ -46,7 +46,7 @@ gapAt l k = record { low = getD l k 0; high = getD l (k + 1) 0 }
 
 -- for each of the first n cells, the records whose pairs hold in it
 pub record InCells (s : List ℕ) (h : ℕ) (cells : List ℕ) (n : ℕ) (pairs : List ℕ) : Type 0 where
-  pub each : (j : ℕ) → j < n → getD pairs j 0 ≡ recordsThat s headerLength h (pairsHold (getD cells j 0))
+  pub each : (j : ℕ) → j < n → getD pairs j 0 ≡ recordsThat s (headerLength s) h (pairsHold (getD cells j 0))
 
 -- the mask in cell j of the era from b to e
 unfoldable pub maskIn : ℕ → ℕ → ℕ → ℕ → List ℕ → List ℕ → ℕ → ℕ
@@ -60,9 +60,10 @@ pub record Cuts (l a : List ℕ) (n top : ℕ) : Type 0 where
   pub most : (k : ℕ) → k ≤ n → getD a k 0 ≤ top
 
 -- what the masks are made from: the cuts of an accepted rota, and for each cell the records whose pairs hold in it
-pub record Ready (s : List ℕ) (c h : ℕ) (eras : List ℕ) (ne : ℕ) (cells : List ℕ) (nc : ℕ) (pairs : List ℕ) : Type 0 where
+pub record Ready (s : List ℕ) (c from h : ℕ) (eras : List ℕ) (ne : ℕ) (cells : List ℕ) (nc : ℕ) (pairs : List ℕ) : Type 0 where
   pub accepted : rotaJudged s ≡ 0
   pub cycle-is : c ≡ cycleOf s
+  pub from-is : from ≡ headerLength s
   pub hours-are : h ≡ hoursOf s
   pub era-cuts : Cuts (eraCuts (rotaOf s)) eras ne E
   pub cell-cuts : Cuts (cellCuts (rotaOf s)) cells nc (cycleOf s)

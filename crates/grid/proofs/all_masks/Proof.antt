@@ -10,10 +10,10 @@ use Rattle.grid.proofs.all_masks.Statement.{statement}
 use Rattle.grid.proofs.all_masks.Tie as tie
 
 abbrev Inv-loop : tie.InvT-loop
-Inv-loop s cycle h eras ne cells nc pairs masks₀ i₀ first₀ masks i first = Written s eras ne nc i first masks × (length masks ≡ length masks₀)
+Inv-loop s cycle from h eras ne cells nc pairs masks₀ i₀ first₀ masks i first = Written s eras ne nc i first masks × (length masks ≡ length masks₀)
 
 abbrev μ-loop : tie.MeasureT-loop
-μ-loop s cycle h eras ne cells nc pairs masks₀ i₀ first₀ masks i first = ne - i
+μ-loop s cycle from h eras ne cells nc pairs masks₀ i₀ first₀ masks i first = ne - i
 
 loop-holds : tie.Need-loop-holds Inv-loop μ-loop
 loop-holds c = (written-none _ _ _ _ _, refl)
@@ -34,7 +34,7 @@ shared-slice-read-e : tie.Need-shared-slice-read-e Inv-loop μ-loop
 shared-slice-read-e c = omega (arith, c .before .before .before .before .before .before .before .before .before .pre .0 .era-cuts .long)
 
 era-mask-requires : tie.Need-era-mask-requires Inv-loop μ-loop
-era-mask-requires c κs = (c .before .before .before .before .before .before .before .before .before .pre .0 .accepted, c .before .before .before .before .before .before .before .before .before .pre .0 .hours-are)
+era-mask-requires c κs = (c .before .before .before .before .before .before .before .before .before .pre .0 .accepted, c .before .before .before .before .before .before .before .before .before .pre .0 .from-is, c .before .before .before .before .before .before .before .before .before .pre .0 .hours-are)
 
 era-masks-requires : tie.Need-era-masks-requires Inv-loop μ-loop
 era-masks-requires c κs = let p = c .before .before .before .before .before .before .before .before .before .before .before .pre in

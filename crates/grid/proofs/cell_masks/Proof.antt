@@ -11,10 +11,10 @@ use Rattle.grid.proofs.cell_masks.Statement.{statement}
 use Rattle.grid.proofs.cell_masks.Tie as tie
 
 abbrev Inv-loop : tie.InvT-loop
-Inv-loop s h cells n pairs₀ j₀ pairs j = (j ≤ n) × (length pairs ≡ length pairs₀) × InCells s h cells j pairs
+Inv-loop s from h cells n pairs₀ j₀ pairs j = (j ≤ n) × (length pairs ≡ length pairs₀) × InCells s h cells j pairs
 
 abbrev μ-loop : tie.MeasureT-loop
-μ-loop s h cells n pairs₀ j₀ pairs j = n - j
+μ-loop s from h cells n pairs₀ j₀ pairs j = n - j
 
 loop-holds : tie.Need-loop-holds Inv-loop μ-loop
 loop-holds c = (search needs, refl, in-cells-none _ _ _ _)
@@ -26,7 +26,7 @@ shared-slice-read-cell-mask : tie.Need-shared-slice-read-cell-mask Inv-loop μ-l
 shared-slice-read-cell-mask c = search needs
 
 cell-mask-requires : tie.Need-cell-mask-requires Inv-loop μ-loop
-cell-mask-requires c κs = (c .before .before .before .before .before .before .pre .0, c .before .before .before .before .before .before .pre .1)
+cell-mask-requires c κs = (c .before .before .before .before .before .before .pre .0, c .before .before .before .before .before .before .pre .1, c .before .before .before .before .before .before .pre .2)
 
 mul-pairs : tie.Need-mul-pairs Inv-loop μ-loop
 mul-pairs c = search needs
