@@ -3,6 +3,7 @@
 --     mask-is                                the mask of one field
 --     Written, written-..                    the masks of the eras passed are stored
 --     eras-cut, cells-cut, divided, laid     the arrays of cuts, and all together
+--     fields-few                             how many fields there are at most
 -- Assumes nothing.
 use Prim.Native.Nat.{ℕ, _+_, _-_, _*_, _%_, _≤_, _<_}
 use mathlib.Core.Path.{_≡_, refl, sym, ap, ap₂, _∙_}
@@ -34,6 +35,7 @@ use Rattle.derivation.specs.Masks.{maskOf}
 use Rattle.derivation.proofs.CutLaws.{Inside}
 use Rattle.derivation.proofs.ValueLaws.{era-values, cell-values, hoursCuts-length, pairsCuts-length}
 use Rattle.derivation.proofs.TableFields.{fieldsOf-length}
+use Rattle.grid.specs.declared.Division.{Division}
 use Rattle.grid.specs.Grid.{Added, hoursNo, fieldMask, gapAt, InCells, maskIn, Cuts, Divided, Laid}
 use Rattle.grid.proofs.RecordLaws.{few-hours}
 use Rattle.grid.proofs.OrderLaws.{gaps-at, gap-in, added-cuts}
@@ -174,9 +176,10 @@ module _ (s : List ℕ) (ok : rotaJudged s ≡ 0) where
       unfolding cellCuts rotaOf
       cells-cut e l = added-cuts (cycleOf s) (rw e at p) (cell-values (rotaOf s) (accepted-well s ok)) (omega arith) (omega (arith, cells-few))
 
-  -- the arrays of cuts, and the masks beside them
+  -- the cuts, and the masks beside them
   pub divided : {a a′ b b′ : List ℕ} {m n c : ℕ} → c ≡ cycleOf s → Added a 0 (0 ∷ E ∷ hoursCuts (rotaOf s .hours)) b m → 66 ≤ length b
-      → Added a′ 0 (0 ∷ c ∷ pairsCuts (rotaOf s .hours)) b′ n → 514 ≤ length b′ → Divided s b b′ (m - 1) (n - 1)
+      → Added a′ 0 (0 ∷ c ∷ pairsCuts (rotaOf s .hours)) b′ n → 514 ≤ length b′
+      → Divided s (record { eras = b; «era_count» = m - 1; cells = b′; «cell_count» = n - 1 })
   divided e p l q k =
       record {
         few-eras = omega (arith, eras-few p);
@@ -185,12 +188,16 @@ module _ (s : List ℕ) (ok : rotaJudged s ≡ 0) where
         cell-cuts = cells-cut q e k;
       }
 
-  pub laid : {eras cells masks : List ℕ} {ne nc : ℕ} → Divided s eras cells ne nc → ne * nc ≤ length masks
-      → take (ne * nc) masks ≡ map (maskOf (rotaOf s)) (fields (rotaOf s)) → Laid s eras cells masks ne nc
-  laid {eras} {cells} {masks} {ne} {nc} d room e =
+  pub laid : {d : Division} {masks : List ℕ} → Divided s d → d .«era_count» * d .«cell_count» ≤ length masks
+      → take (d .«era_count» * d .«cell_count») masks ≡ map (maskOf (rotaOf s)) (fields (rotaOf s)) → Laid s d masks
+  laid {d} w room e =
       record {
-        divided = d;
+        divided = w;
         masks-are = e;
         masks-long = room;
-        count = fields-number eras cells ne nc (d .era-cuts) (d .cell-cuts);
+        count = fields-number (d .eras) (d .cells) (d .«era_count») (d .«cell_count») (w .era-cuts) (w .cell-cuts);
       }
+
+-- 65 eras by 513 cells are the most
+pub fields-few : {s : List ℕ} {d : Division} → Divided s d → d .«era_count» * d .«cell_count» ≤ 33345
+fields-few {d = d} w = omega (arith, mul-le-mul-right (d .«cell_count») (w .few-eras), w .few-cells)

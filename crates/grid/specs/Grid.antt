@@ -16,6 +16,7 @@ use Rattle.rota.specs.RotaRefusals.{rotaJudged}
 use Rattle.derivation.specs.Cuts.{Gap, insertCut, sortInto}
 use Rattle.derivation.specs.Rewriting.{eraCuts, cellCuts, fields}
 use Rattle.derivation.specs.Masks.{maskOf}
+use Rattle.grid.specs.declared.Division.{Division}
 
 -- among the first n values of an array a, those before r are less than x, and the one at r is not
 pub record Placed (a : List ℕ) (n x r : ℕ) : Type 0 where
@@ -70,16 +71,16 @@ pub record Ready (s : List ℕ) (c from h : ℕ) (eras : List ℕ) (ne : ℕ) (c
   pub in-cells : InCells s h cells nc pairs
   pub pairs-long : nc ≤ length pairs
 
--- the cuts of ne eras and nc cells
-pub record Divided (s eras cells : List ℕ) (ne nc : ℕ) : Type 0 where
-  pub few-eras : ne ≤ 65
-  pub few-cells : nc ≤ 513
-  pub era-cuts : Cuts (eraCuts (rotaOf s)) eras ne E
-  pub cell-cuts : Cuts (cellCuts (rotaOf s)) cells nc (cycleOf s)
+-- the division has the rota's cuts
+pub record Divided (s : List ℕ) (d : Division) : Type 0 where
+  pub few-eras : d .«era_count» ≤ 65
+  pub few-cells : d .«cell_count» ≤ 513
+  pub era-cuts : Cuts (eraCuts (rotaOf s)) (d .eras) (d .«era_count») E
+  pub cell-cuts : Cuts (cellCuts (rotaOf s)) (d .cells) (d .«cell_count») (cycleOf s)
 
 -- with the mask of each field: eras, then cells
-pub record Laid (s eras cells masks : List ℕ) (ne nc : ℕ) : Type 0 where
-  pub divided : Divided s eras cells ne nc
-  pub masks-are : take (ne * nc) masks ≡ map (maskOf (rotaOf s)) (fields (rotaOf s))
-  pub masks-long : ne * nc ≤ length masks
-  pub count : length (fields (rotaOf s)) ≡ ne * nc
+pub record Laid (s : List ℕ) (d : Division) (masks : List ℕ) : Type 0 where
+  pub divided : Divided s d
+  pub masks-are : take (d .«era_count» * d .«cell_count») masks ≡ map (maskOf (rotaOf s)) (fields (rotaOf s))
+  pub masks-long : d .«era_count» * d .«cell_count» ≤ length masks
+  pub count : length (fields (rotaOf s)) ≡ d .«era_count» * d .«cell_count»

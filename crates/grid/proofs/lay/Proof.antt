@@ -11,9 +11,12 @@ cast-h c = search needs
 slice-aggregate-cell-masks : tie.Need-slice-aggregate-cell-masks
 slice-aggregate-cell-masks c = search needs
 
+slice-aggregate-cell-masks-2 : tie.Need-slice-aggregate-cell-masks-2
+slice-aggregate-cell-masks-2 c = search needs
+
 cell-masks-requires : tie.Need-cell-masks-requires
 cell-masks-requires c κs =
-    let p = c .before .before .before .before .before .before .before .pre in
+    let p = c .before .before .before .before .before .before .before .before .pre in
     let w = p .0 in
     let d = p .1 in
     (w .accepted, hours-at _ _ w, counted _ _ w .hours, omega (arith, d .cell-cuts .long), omega (arith, d .few-cells))
@@ -21,11 +24,18 @@ cell-masks-requires c κs =
 slice-aggregate-all-masks : tie.Need-slice-aggregate-all-masks
 slice-aggregate-all-masks c = search needs
 
+slice-aggregate-all-masks-2 : tie.Need-slice-aggregate-all-masks-2
+slice-aggregate-all-masks-2 c = search needs
+
+slice-aggregate-all-masks-3 : tie.Need-slice-aggregate-all-masks-3
+slice-aggregate-all-masks-3 c = search needs
+
 all-masks-requires : tie.Need-all-masks-requires
 all-masks-requires c κs =
-    let p = c .before .before .before .before .before .before .before .before .before .before .before .pre in
+    let p = c .before .before .before .before .before .before .before .before .before .before .before .before .before .before .pre in
     let w = p .0 in
-    let d = p .1 in (
+    let d = p .1 in
+    let m = c .before .before .before .before .before .cell-masks in (
       record {
         accepted = w .accepted;
         cycle-is = counted _ _ w .cycle;
@@ -33,8 +43,8 @@ all-masks-requires c κs =
         hours-are = counted _ _ w .hours;
         era-cuts = d .era-cuts;
         cell-cuts = d .cell-cuts;
-        in-cells = c .before .before .before .cell-masks .ensures;
-        pairs-long = omega (arith, d .few-cells, c .before .before .before .cell-masks .kept .1 .1 .1 .1 .1 .0);
+        in-cells = m .ensures;
+        pairs-long = omega (arith, d .few-cells, m .kept .1 .1 .1 .1 .1 .0);
       },
       p .2,
     )
@@ -44,7 +54,7 @@ same-length c = search needs
 
 returns : tie.Need-returns
 returns c =
-    let p = c .before .before .before .before .before .before .before .before .before .before .before .before .before .before .pre in
+    let p = c .before .before .before .before .before .before .before .before .before .before .before .before .before .before .before .before .before .pre in
     let m = c .before .before .all-masks in
     laid _ (p .0 .accepted) (p .1) (omega (arith, p .2, m .kept .1 .1 .1 .1 .1 .1 .1 .1 .1 .0)) (m .ensures)
 
@@ -54,8 +64,11 @@ lay-spec =
     (tie.spec
     cast-h
     slice-aggregate-cell-masks
+    slice-aggregate-cell-masks-2
     cell-masks-requires
     slice-aggregate-all-masks
+    slice-aggregate-all-masks-2
+    slice-aggregate-all-masks-3
     all-masks-requires
     same-length
     returns)
