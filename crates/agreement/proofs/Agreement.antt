@@ -26,9 +26,9 @@ use Rattle.derivation.specs.Untimed.{Untimed, countOf, Rival}
 use Rattle.derivation.proofs.RewritingTheorems.{means, same-answer, fewest}
 use Rattle.derivation.proofs.TableRewritten.{rewritten-accepted, rewritten-read, rewritten-length}
 use Rattle.lent.specs.declared.Kind.the-variants as Kind
-use Rattle.service.specs.Machine.{Call, fresh, machineStep}
+use Rattle.machine.specs.Machine.{Call, fresh, machineStep}
 use Rattle.service.specs.LentStep.{lentStep}
-use Rattle.service.specs.declared.Service.{Service}
+use Rattle.machine.specs.declared.Service.{Service}
 use Rattle.agreement.specs.Demand3.{Demand3}
 use Rattle.agreement.proofs.MachineLaws.{run-same, service-is, same-step}
 

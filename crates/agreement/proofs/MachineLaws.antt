@@ -16,8 +16,8 @@ use Rattle.bitset.specs.Sets.{has, difference, count}
 use Rattle.bitset.proofs.SetLaws.{setOf-same}
 use Rattle.minutes.specs.Minutes.{E}
 use Rattle.policy.specs.Policy.{Policy, isYes, holdsAny}
-use Rattle.service.specs.Machine.{Call, advance, «open», close, ask, closed, answered, Step, state, staying, stateJudged, advanceJudged, openJudged, askJudged, callJudged, given-by, left-by, settled, stepBy, machineStep, serviceStep, run}
-use Rattle.service.specs.declared.Service.{Service}
+use Rattle.machine.specs.Machine.{Call, advance, «open», close, ask, closed, answered, Step, state, staying, stateJudged, advanceJudged, openJudged, askJudged, callJudged, given-by, left-by, settled, stepBy, machineStep, serviceStep, run}
+use Rattle.machine.specs.declared.Service.{Service}
 
 -- steps that agree give runs that agree
 pub run-same : (f g : Service → Call → Step) → ((σ : Service) (c : Call) → f σ c ≡ g σ c) → (cs : List Call) (σ : Service) → run f σ cs ≡ run g σ cs

@@ -35,7 +35,7 @@ use Rattle.derivation.proofs.RewritingTheorems.{kept-mask, worked-field}
 use Rattle.derivation.specs.Roles.{entriesFrom, rowsFrom, nextEntries, markOf, derivedFrom, marksFrom, rowsMarked}
 use Rattle.derivation.proofs.RoleByRole.{entries-by-role, rows-by-role}
 use Rattle.derivation.proofs.RoleMarks.{Agree, agree-masks, role-entries, role-rows}
-use Rattle.service.specs.Machine.{staying, stateJudged, advanceJudged, openJudged, callJudged, given-by, left-by, settled, stepBy, machineStep}
+use Rattle.machine.specs.Machine.{staying, stateJudged, advanceJudged, openJudged, callJudged, given-by, left-by, settled, stepBy, machineStep}
 use Rattle.agreement.specs.Worked.{Worked}
 
 -- opens every definition that an example computes through

@@ -17,7 +17,7 @@ use Rattle.derivation.specs.Rewriting.{rewrite}
 use Rattle.derivation.specs.Untimed.{Untimed, countOf, Rival}
 use Rattle.derivation.specs.Meaning.{MeansAt}
 use Rattle.lent.specs.declared.Kind.the-variants as Kind
-use Rattle.service.specs.Machine.{Call, Run, fresh, machineStep, run}
+use Rattle.machine.specs.Machine.{Call, Run, fresh, machineStep, run}
 use Rattle.service.specs.LentStep.{lentStep}
 
 -- the plain machine on a rota, fresh, through a list of calls

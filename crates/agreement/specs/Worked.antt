@@ -10,8 +10,8 @@ use Rattle.rota.specs.RotaBytes.{rotaOf}
 use Rattle.rota.specs.Worked.{small, WorkedMinutes}
 use Rattle.derivation.specs.Rewriting.{keptAs, Kept, kept}
 use Rattle.derivation.specs.Worked.{example, field}
-use Rattle.service.specs.declared.Service.{Service}
-use Rattle.service.specs.Machine.{Call, advance, «open», closed, done, Step, state, fresh, machineStep}
+use Rattle.machine.specs.declared.Service.{Service}
+use Rattle.machine.specs.Machine.{Call, advance, «open», closed, done, Step, state, fresh, machineStep}
 
 -- one call of the plain machine on S
 abbrev pub on-small : Service → Call → Step

@@ -4,10 +4,10 @@ use bitset::contains;
 use hours::HoursAnswer;
 use lent::Kind;
 use lent::Lending;
-use service::Advanced;
-use service::Asked;
-use service::Changed;
-use service::Service;
+use machine::Advanced;
+use machine::Asked;
+use machine::Changed;
+use machine::Service;
 
 // A number that was found, or nothing.
 #[repr(C)]

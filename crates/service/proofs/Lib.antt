@@ -1,3 +1,2 @@
-pub mod CoreLaws
 pub mod StepLaws
 pub mod LentReady

@@ -13,10 +13,10 @@ use Rattle.ground.proofs.JudgementLaws.{orElse-ne}
 use Rattle.bitset.specs.Sets.{has, setOf, intersection, difference, count}
 use Rattle.bitset.proofs.SetLaws.{ext, has-setOf, has-below, has-intersection, intersection-lt, fits-64}
 use Rattle.policy.specs.Policy.{Policy, holdsAny, holdersAt}
-use Rattle.service.proofs.CoreLaws.{settled-refused, settled-given}
-use Rattle.service.specs.Machine.{Call, advance, «open», close, ask, closed, state, staying, stateJudged, advanceJudged, openJudged, closeJudged, askJudged, callJudged, given-by, left-by, stepBy, serviceStep}
-use Rattle.service.specs.Core.{movedStep, openedStep, closedStep, answeredStep}
-use Rattle.service.specs.declared.Service.{Service}
+use Rattle.machine.proofs.CoreLaws.{settled-refused, settled-given}
+use Rattle.machine.specs.Machine.{Call, advance, «open», close, ask, closed, state, staying, stateJudged, advanceJudged, openJudged, closeJudged, askJudged, callJudged, given-by, left-by, stepBy, serviceStep}
+use Rattle.machine.specs.Core.{movedStep, openedStep, closedStep, answeredStep}
+use Rattle.machine.specs.declared.Service.{Service}
 
 -- lent bytes that are judged to be j are accepted, and these are the counts of what they say
 pub record Ready (j users permissions : ℕ) (π : Policy) : Type 0 where

@@ -3,8 +3,8 @@ use Prim.Native.Nat.{ℕ}
 use mathlib.Core.List.{List}
 use Rattle.lent.specs.Lent.{judgedAs, policyAs}
 use Rattle.lent.specs.declared.Kind.{Kind}
-use Rattle.service.specs.Machine.{Call, Step, serviceStep}
-use Rattle.service.specs.declared.Service.{Service}
+use Rattle.machine.specs.Machine.{Call, Step, serviceStep}
+use Rattle.machine.specs.declared.Service.{Service}
 
 abbrev pub lentStep : Kind → List ℕ → Service → Call → Step
 lentStep kind s σ c = serviceStep (judgedAs kind s) (policyAs kind s) σ c

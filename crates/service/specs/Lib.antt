@@ -1,4 +1,1 @@
-pub mod Machine
 pub mod LentStep
-pub mod Answers
-pub mod Core

@@ -39,10 +39,10 @@ use denote.Triple.Entry.{onEntry}
 use denote.Triple.Spec.{Meets, tripleOf}
 use denote.Triple.Walked.{says, Stays, stay-ref, stay-none, stay-none-slice, walkOf, AllGo, goes-ref, goes-none, goes-none-slice, Walks, ends-at, walked, walk-meets}
 use denote.Exit.{yes}
-use Rattle.service.specs.declared.Service.{Service}
+use Rattle.machine.specs.declared.Service.{Service}
 use Rattle.softlode.specs.declared.Stepped.{Stepped}
-use Rattle.service.proofs.Service as T
-use Rattle.service.proofs.Service.Laws as T′
+use Rattle.machine.proofs.Service as T
+use Rattle.machine.proofs.Service.Laws as T′
 use Rattle.softlode.proofs.Stepped as P
 use Rattle.softlode.proofs.Stepped.Laws as P′
 use Rattle.softlode.proofs.Told as N

@@ -6,8 +6,8 @@ use Rattle.calendar.specs.declared.Date.{Date}
 use Rattle.rota.specs.declared.Counts as rota
 use Rattle.table.specs.declared.Counts as table
 use Rattle.derivation.specs.Rewriting.{Written}
-use Rattle.service.specs.Machine.{Gift, Step, closed, done, answered}
-use Rattle.service.specs.declared.Service.{Service}
+use Rattle.machine.specs.Machine.{Gift, Step, closed, done, answered}
+use Rattle.machine.specs.declared.Service.{Service}
 use Rattle.softlode.specs.declared.RotaTold.{RotaTold}
 use Rattle.softlode.specs.declared.TableTold.{TableTold}
 use Rattle.softlode.specs.declared.WrittenTold.{WrittenTold}

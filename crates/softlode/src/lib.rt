@@ -14,19 +14,19 @@ ghost use Rattle.table.specs.TableRefusals.{tableJudged};
 ghost use Rattle.table.specs.Answers.{readOutcome as tableRead};
 ghost use Rattle.derivation.specs.Rewriting.{rewriteOutcome, areaAfter};
 ghost use Rattle.lent.specs.declared.Kind.the-variants as Kind;
-ghost use Rattle.service.specs.Machine.{advance, «open», close, ask};
+ghost use Rattle.machine.specs.Machine.{advance, «open», close, ask};
 ghost use Rattle.service.specs.LentStep.{lentStep};
 ghost use Rattle.softlode.specs.Told.{telling, questionTold, leaving, steppedBy, rotaTold, tableTold, writtenTold, dateTold, minuteTold};
 use area::Rewritten;
 use calendar::DateAnswer;
 use calendar::MinuteAnswer;
 use lent::Kind;
+use machine::Advanced;
+use machine::Asked;
+use machine::Changed;
+use machine::Service;
 use policy::Answer;
 use rota::RotaAnswer;
-use service::Advanced;
-use service::Asked;
-use service::Changed;
-use service::Service;
 use table::TableAnswer;
 
 // What reading a rota tells: the counts of its header.

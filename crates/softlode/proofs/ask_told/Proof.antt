@@ -1,7 +1,7 @@
 -- Each case of the answer is told as its step says, with the state that it carries.
 use mathlib.Core.Path.{_∙_}
 use borrow.Author.Needs.{needs}
-use Rattle.service.specs.Answers.{askedStep}
+use Rattle.machine.specs.Answers.{askedStep}
 use Rattle.softlode.specs.Told.{steppedBy}
 use Rattle.softlode.proofs.ToldLaws.{told}
 use Rattle.softlode.proofs.ask_told.Statement.{statement}

@@ -1,6 +1,6 @@
 use mathlib.Core.Path.{_∙_}
 use borrow.Author.Needs.{needs}
-use Rattle.service.specs.Answers.{changedStep}
+use Rattle.machine.specs.Answers.{changedStep}
 use Rattle.softlode.specs.Told.{steppedBy}
 use Rattle.softlode.proofs.ToldLaws.{told}
 use Rattle.softlode.proofs.open_told.Statement.{statement}

@@ -10,7 +10,7 @@ use Rattle.ground.specs.Outcome.{Outcome, refused, given}
 use Rattle.bitset.specs.Sets.{has, setOf, insert, remove, difference, count}
 use Rattle.minutes.specs.Minutes.{E}
 use Rattle.policy.specs.Policy.{Policy, holdsAny}
-use Rattle.service.specs.declared.Service.{Service}
+use Rattle.machine.specs.declared.Service.{Service}
 
 -- the state: now, a minute, and open, a set of users
 abbrev pub state : ℕ → ℕ → Service

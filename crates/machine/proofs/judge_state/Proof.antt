@@ -1,8 +1,8 @@
-use Rattle.service.proofs.CoreLaws.{state-late, state-fine, state-over}
+use Rattle.machine.proofs.CoreLaws.{state-late, state-fine, state-over}
 use Rattle.minutes.specs.Minutes.{E}
 use borrow.Author.Needs.{needs}
-use Rattle.service.proofs.judge_state.Statement.{statement}
-use Rattle.service.proofs.judge_state.Tie as tie
+use Rattle.machine.proofs.judge_state.Statement.{statement}
+use Rattle.machine.proofs.judge_state.Tie as tie
 
 returns : tie.Need-returns
 unfolding E

@@ -1,7 +1,7 @@
-use Rattle.service.proofs.CoreLaws.{moved-as}
+use Rattle.machine.proofs.CoreLaws.{moved-as}
 use borrow.Author.Needs.{needs}
-use Rattle.service.proofs.moved.Statement.{statement}
-use Rattle.service.proofs.moved.Tie as tie
+use Rattle.machine.proofs.moved.Statement.{statement}
+use Rattle.machine.proofs.moved.Tie as tie
 
 both-requires : tie.Need-both-requires
 both-requires c κs = search needs

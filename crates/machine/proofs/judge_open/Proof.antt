@@ -1,9 +1,9 @@
-use Rattle.service.specs.Machine.{openJudged}
+use Rattle.machine.specs.Machine.{openJudged}
 use Rattle.ground.proofs.JudgementLaws.{tests}
 use Rattle.ground.specs.Judgement.{refuse, _orElse_}
 use borrow.Author.Needs.{needs}
-use Rattle.service.proofs.judge_open.Statement.{statement}
-use Rattle.service.proofs.judge_open.Tie as tie
+use Rattle.machine.proofs.judge_open.Statement.{statement}
+use Rattle.machine.proofs.judge_open.Tie as tie
 
 returns : tie.Need-returns
 unfolding openJudged refuse _orElse_

@@ -1,9 +1,9 @@
-use Rattle.service.proofs.CoreLaws.{settled-refused, settled-as, close-inside}
+use Rattle.machine.proofs.CoreLaws.{settled-refused, settled-as, close-inside}
 use native.Mathlib.Omega.{arith}
-use Rattle.service.specs.Core.{closedStep}
+use Rattle.machine.specs.Core.{closedStep}
 use borrow.Author.Needs.{needs}
-use Rattle.service.proofs.closed.Statement.{statement}
-use Rattle.service.proofs.closed.Tie as tie
+use Rattle.machine.proofs.closed.Statement.{statement}
+use Rattle.machine.proofs.closed.Tie as tie
 
 judge-close-requires : tie.Need-judge-close-requires
 judge-close-requires c κs = search needs

@@ -1,10 +1,10 @@
-use Rattle.service.specs.Core.{answeredStep}
+use Rattle.machine.specs.Core.{answeredStep}
 use Rattle.policy.specs.Policy.{answerGiven}
 use Rattle.policy.specs.declared.Answer.{Answer}
 use mathlib.Core.Path.{sym, ap}
 use borrow.Author.Needs.{needs}
-use Rattle.service.proofs.answered.Statement.{statement}
-use Rattle.service.proofs.answered.Tie as tie
+use Rattle.machine.proofs.answered.Statement.{statement}
+use Rattle.machine.proofs.answered.Tie as tie
 
 enum-known-answer : tie.Need-enum-known-answer
 enum-known-answer c = search needs

@@ -1,13 +1,13 @@
 -- What each case of the calls' answers stands for: 01's number or values, and the state.
 use mathlib.Core.Option.{none, some}
 use Rattle.ground.specs.Outcome.{refused, given}
-use Rattle.service.specs.Machine.{Step, closed, done, answered}
-use Rattle.service.specs.declared.Advanced.{Advanced}
-use Rattle.service.specs.declared.Advanced.the-variants as advanced
-use Rattle.service.specs.declared.Changed.{Changed}
-use Rattle.service.specs.declared.Changed.the-variants as changed
-use Rattle.service.specs.declared.Asked.{Asked}
-use Rattle.service.specs.declared.Asked.the-variants as asked
+use Rattle.machine.specs.Machine.{Step, closed, done, answered}
+use Rattle.machine.specs.declared.Advanced.{Advanced}
+use Rattle.machine.specs.declared.Advanced.the-variants as advanced
+use Rattle.machine.specs.declared.Changed.{Changed}
+use Rattle.machine.specs.declared.Changed.the-variants as changed
+use Rattle.machine.specs.declared.Asked.{Asked}
+use Rattle.machine.specs.declared.Asked.the-variants as asked
 
 abbrev pub advancedStep : Advanced → Step
 advancedStep (advanced.Closed n σ) = record { outcome = given (closed n); after = σ }

@@ -1,11 +1,11 @@
-use Rattle.service.proofs.CoreLaws.{first, onward}
-use Rattle.service.specs.Machine.{advanceJudged}
+use Rattle.machine.proofs.CoreLaws.{first, onward}
+use Rattle.machine.specs.Machine.{advanceJudged}
 use Rattle.ground.proofs.JudgementLaws.{tests}
 use Rattle.ground.specs.Judgement.{refuse, _orElse_}
 use Rattle.minutes.specs.Minutes.{E}
 use borrow.Author.Needs.{needs}
-use Rattle.service.proofs.judge_advance.Statement.{statement}
-use Rattle.service.proofs.judge_advance.Tie as tie
+use Rattle.machine.proofs.judge_advance.Statement.{statement}
+use Rattle.machine.proofs.judge_advance.Tie as tie
 
 judge-state-requires : tie.Need-judge-state-requires
 judge-state-requires c κs = search needs

@@ -4,8 +4,8 @@ use mathlib.Core.Option.{Option}
 use Rattle.ground.specs.Judgement.{_orElse_}
 use Rattle.ground.specs.Outcome.{Outcome, refused, given}
 use Rattle.bitset.specs.Sets.{has, insert, remove, intersection, difference, count}
-use Rattle.service.specs.Machine.{Gift, Step, closed, done, answered, state, stateJudged, openJudged, closeJudged, settled}
-use Rattle.service.specs.declared.Service.{Service}
+use Rattle.machine.specs.Machine.{Gift, Step, closed, done, answered, state, stateJudged, openJudged, closeJudged, settled}
+use Rattle.machine.specs.declared.Service.{Service}
 
 unfoldable pub closedStep : ℕ → Service → ℕ → Step
 closedStep users σ u = settled (stateJudged users σ orElse closeJudged users σ u) done (state (σ .now) (remove (σ .«open») u)) σ

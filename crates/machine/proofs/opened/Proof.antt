@@ -1,9 +1,9 @@
-use Rattle.service.proofs.CoreLaws.{settled-refused, settled-as, open-inside}
+use Rattle.machine.proofs.CoreLaws.{settled-refused, settled-as, open-inside}
 use native.Mathlib.Omega.{arith}
-use Rattle.service.specs.Core.{openedStep}
+use Rattle.machine.specs.Core.{openedStep}
 use borrow.Author.Needs.{needs}
-use Rattle.service.proofs.opened.Statement.{statement}
-use Rattle.service.proofs.opened.Tie as tie
+use Rattle.machine.proofs.opened.Statement.{statement}
+use Rattle.machine.proofs.opened.Tie as tie
 
 judge-open-requires : tie.Need-judge-open-requires
 judge-open-requires c κs = search needs

@@ -11,9 +11,9 @@ use Rattle.ground.proofs.BoolLaws.{or-no}
 use Rattle.ground.proofs.JudgementLaws.{orElse-ne, orElse-zero, refuse-no}
 use Rattle.bitset.specs.Sets.{has, intersection, difference, count}
 use Rattle.minutes.specs.Minutes.{E}
-use Rattle.service.specs.Machine.{Gift, closed, state, stateJudged, advanceJudged, openJudged, closeJudged, askJudged, settled}
-use Rattle.service.specs.Core.{movedStep}
-use Rattle.service.specs.declared.Service.{Service}
+use Rattle.machine.specs.Machine.{Gift, closed, state, stateJudged, advanceJudged, openJudged, closeJudged, askJudged, settled}
+use Rattle.machine.specs.Core.{movedStep}
+use Rattle.machine.specs.declared.Service.{Service}
 
 -- a first judgement n that refuses; one that does not, before b
 pub first : (n a b : ℕ) → n ≡ a → (n ≡ 0 → ⊥) → n ≡ a orElse b
