@@ -26,8 +26,9 @@ use Rattle.derivation.specs.Rewriting.{rewrite, sizeOf, rewriteJudged, Written,
 use Rattle.lines.specs.Lines.{refusedLine}
 use Rattle.lines.specs.Written.{Put}
 use Rattle.lines.proofs.PutLaws.{put-same, put-length}
-use Rattle.printout.specs.Listing.{listingJudged, tableText, listingOf, Text}
-use Rattle.printout.specs.Parts.{TableFits}
+use Rattle.table_text.specs.TableText.{tableText}
+use Rattle.printout.specs.Listing.{listingJudged, listingOf, Text}
+use Rattle.table_text.specs.Parts.{TableFits}
 
 pub put-text : {text l m : List ℕ} {n : ℕ} → Put text l 0 m n → n ≤ length l → Text text l m n
 put-text {text} {l} {m} {n} p h =

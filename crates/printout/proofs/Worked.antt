@@ -16,7 +16,8 @@ use Rattle.table.specs.Table.{Entry, Row}
 use Rattle.derivation.specs.Rewriting.{rewrite, rewriteJudged}
 use Rattle.agreement.proofs.Worked.{small-entries, small-rows, small-size}
 use Rattle.lines.specs.Lines.{ascii, digit, digits, placesIn, places, decimal, hex16, tableLine, roleLine, rowLine}
-use Rattle.printout.specs.Listing.{listingJudged, roleText, rowText, rolesText, tableText, listingOf}
+use Rattle.table_text.specs.TableText.{roleText, rowText, rolesText, tableText}
+use Rattle.printout.specs.Listing.{listingJudged, listingOf}
 
 cycle-of-S : rewrite (rotaOf small) .cycle ≡ 10
 unfolding rewrite rotaOf u16At

@@ -3,13 +3,13 @@ use Rattle.ground.specs.Sequence.{listOf, joined}
 use Rattle.table.specs.TableBytes.{derivedOf, rowOf}
 use Rattle.lines.specs.Written.{Put}
 use Rattle.lines.proofs.PutLaws.{put-none, put-same, put-after, put-length}
-use Rattle.printout.specs.Listing.{rowText}
-use Rattle.printout.proofs.TextLaws.{rows-none, rows-more}
+use Rattle.table_text.specs.TableText.{rowText}
+use Rattle.table_text.proofs.TextLaws.{rows-none, rows-more}
 use native.Mathlib.Omega.{arith}
 use mathlib.Core.Path.{_≡_, ap}
 use Prim.Native.Nat.{ℕ, _+_, _-_, _*_, _≤_}
-use Rattle.printout.proofs.put_rows.Statement.{statement}
-use Rattle.printout.proofs.put_rows.Tie as tie
+use Rattle.table_text.proofs.put_rows.Statement.{statement}
+use Rattle.table_text.proofs.put_rows.Tie as tie
 
 abbrev Inv-loop : tie.InvT-loop
 Inv-loop t d n out₀ at next₀ p₀ left₀ out next p left =

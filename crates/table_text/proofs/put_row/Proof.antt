@@ -1,10 +1,10 @@
 -- The five fields stand at their places in the row's bytes.
 use Rattle.lines.proofs.PutLaws.{put-same}
-use Rattle.printout.proofs.TextLaws.{row-is}
+use Rattle.table_text.proofs.TextLaws.{row-is}
 use native.Mathlib.Omega.{arith}
 use borrow.Author.Needs.{needs}
-use Rattle.printout.proofs.put_row.Statement.{statement}
-use Rattle.printout.proofs.put_row.Tie as tie
+use Rattle.table_text.proofs.put_row.Statement.{statement}
+use Rattle.table_text.proofs.put_row.Tie as tie
 
 read32-requires : tie.Need-read32-requires
 read32-requires c κs = search needs

@@ -1,9 +1,9 @@
 use Rattle.lines.proofs.PutLaws.{put-same}
-use Rattle.printout.proofs.TextLaws.{role-is}
+use Rattle.table_text.proofs.TextLaws.{role-is}
 use native.Mathlib.Omega.{arith}
 use borrow.Author.Needs.{needs}
-use Rattle.printout.proofs.put_role.Statement.{statement}
-use Rattle.printout.proofs.put_role.Tie as tie
+use Rattle.table_text.proofs.put_role.Statement.{statement}
+use Rattle.table_text.proofs.put_role.Tie as tie
 
 mul-p : tie.Need-mul-p
 mul-p c = search needs

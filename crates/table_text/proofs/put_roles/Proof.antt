@@ -2,13 +2,13 @@ use Rattle.ground.specs.Sequence.{listOf}
 use Rattle.table.specs.TableBytes.{entryOf}
 use Rattle.lines.specs.Written.{Put}
 use Rattle.lines.proofs.PutLaws.{put-none, put-same, put-after, put-length}
-use Rattle.printout.specs.Listing.{rolesText}
-use Rattle.printout.proofs.TextLaws.{roles-none, roles-more}
+use Rattle.table_text.specs.TableText.{rolesText}
+use Rattle.table_text.proofs.TextLaws.{roles-none, roles-more}
 use native.Mathlib.Omega.{arith}
 use mathlib.Core.Path.{_≡_, ap}
 use Prim.Native.Nat.{ℕ, _+_, _-_, _*_, _≤_}
-use Rattle.printout.proofs.put_roles.Statement.{statement}
-use Rattle.printout.proofs.put_roles.Tie as tie
+use Rattle.table_text.proofs.put_roles.Statement.{statement}
+use Rattle.table_text.proofs.put_roles.Tie as tie
 
 abbrev Inv-loop : tie.InvT-loop
 Inv-loop t n out₀ at next₀ d₀ out next d = (d ≤ n) × Put (rolesText 0 (listOf d (entryOf t))) out₀ at out next × (next ≤ at + 61 * d)

@@ -1,9 +1,9 @@
 use Rattle.lines.proofs.PutLaws.{put-same, put-after}
-use Rattle.printout.proofs.TextLaws.{table-is}
+use Rattle.table_text.proofs.TextLaws.{table-is}
 use native.Mathlib.Omega.{arith}
 use borrow.Author.Needs.{needs}
-use Rattle.printout.proofs.put_table.Statement.{statement}
-use Rattle.printout.proofs.put_table.Tie as tie
+use Rattle.table_text.proofs.put_table.Statement.{statement}
+use Rattle.table_text.proofs.put_table.Tie as tie
 
 read32-requires : tie.Need-read32-requires
 read32-requires c κs = search needs

@@ -15,7 +15,7 @@ use Rattle.endian.specs.Numbers.{u8At, u16At, u32At, u64At}
 use Rattle.table.specs.Table.{Entry}
 use Rattle.table.specs.TableBytes.{cycleOf, derivedOf, rowsOf, entryOf, rowAtByte, rowOf, tableOf}
 use Rattle.lines.specs.Lines.{tableLine, roleLine, rowLine}
-use Rattle.printout.specs.Listing.{roleText, rowText, rolesText, tableText}
+use Rattle.table_text.specs.TableText.{roleText, rowText, rolesText, tableText}
 
 -- a list of derived roles with one more at its end
 roles-append : (d : ℕ) (es : List Entry) (e : Entry) → rolesText d (es ++ (e ∷ [])) ≡ rolesText d es ++ roleText (d + length es) e
