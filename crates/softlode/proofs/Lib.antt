@@ -1,3 +1,2 @@
 pub mod LentOne
 pub mod LentTwo
-pub mod ToldLaws

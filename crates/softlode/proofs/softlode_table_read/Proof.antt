@@ -1,28 +1,17 @@
 use borrow.Author.Needs.{needs}
-use Rattle.table.specs.Answers.{tableGiven}
-use Rattle.softlode.specs.Told.{tableTold}
-use Rattle.softlode.proofs.ToldLaws.{told}
+use mathlib.Core.Path.{ap, _∙_}
+use Rattle.told.specs.Told.{tableTold}
 use Rattle.softlode.proofs.softlode_table_read.Statement.{statement}
 use Rattle.softlode.proofs.softlode_table_read.Tie as tie
 
 read-requires : tie.Need-read-requires
 read-requires c κs = search needs
 
-enum-known-n : tie.Need-enum-known-n
-enum-known-n c = search needs
-
-enum-known-n-2 : tie.Need-enum-known-n-2
-enum-known-n-2 c = search needs
-
-cast-t6 : tie.Need-cast-t6
-cast-t6 c = search needs
+tell-table-requires : tie.Need-tell-table-requires
+tell-table-requires c κs = search needs
 
 returns : tie.Need-returns
-returns c = told tableTold tableGiven (c .before .n .given .1) (c .before .before .before .read .ensures)
-
-returns-2 : tie.Need-returns-2
-returns-2 c = told tableTold tableGiven (c .before .n2 .given .1) (c .before .before .before .read .ensures)
+returns c = c .tell-table .ensures ∙ ap tableTold (c .before .read .ensures)
 
 pub softlode-table-read-spec : {M : Type 1} → statement M
-softlode-table-read-spec =
-    tie.close (tie.spec read-requires enum-known-n enum-known-n-2 cast-t6 returns returns-2)
+softlode-table-read-spec = tie.close (tie.spec read-requires tell-table-requires returns)

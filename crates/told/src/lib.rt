@@ -1,0 +1,316 @@
+// What the C interface tells, in plain numbers: each answer begins with a refusal's number, or 0, and values that an answer does not have are 0.
+ghost use mathlib.Core.Path.{_≡_};
+ghost use Rattle.calendar.specs.Calendar.{dateGiven, minuteGiven};
+ghost use Rattle.policy.specs.Policy.{answerGiven};
+ghost use Rattle.rota.specs.Answers.{rotaGiven};
+ghost use Rattle.table.specs.Answers.{tableGiven};
+ghost use Rattle.area.specs.Answers.{writtenGiven};
+ghost use Rattle.lent.specs.declared.Kind.the-variants as Kind;
+ghost use Rattle.machine.specs.Machine.{advance, «open», close, ask};
+ghost use Rattle.machine.specs.Answers.{advancedStep, changedStep, askedStep};
+ghost use Rattle.service.specs.LentStep.{lentStep};
+ghost use Rattle.told.specs.Told.{telling, questionTold, leaving, steppedBy, rotaTold, tableTold, writtenTold, dateTold, minuteTold};
+use area::Rewritten;
+use calendar::DateAnswer;
+use calendar::MinuteAnswer;
+use lent::Kind;
+use machine::Advanced;
+use machine::Asked;
+use machine::Changed;
+use machine::Service;
+use policy::Answer;
+use rota::RotaAnswer;
+use table::TableAnswer;
+
+// What reading a rota tells: the counts of its header.
+#[repr(C)]
+pub struct RotaTold {
+    pub refusal: u32,
+    pub cycle: u32,
+    pub hours: u32,
+    pub users: u32,
+    pub permissions: u32,
+    pub roles: u32,
+    pub user_rows: u32,
+    pub permission_rows: u32,
+}
+
+// What reading a table tells: the counts of its header.
+#[repr(C)]
+pub struct TableTold {
+    pub refusal: u32,
+    pub cycle: u32,
+    pub users: u32,
+    pub permissions: u32,
+    pub roles: u32,
+    pub derived: u32,
+    pub rows: u32,
+}
+
+// What rewriting tells: the table's derived roles, rows and length.
+#[repr(C)]
+pub struct WrittenTold {
+    pub refusal: u32,
+    pub derived: u32,
+    pub rows: u32,
+    pub length: u64,
+}
+
+#[repr(C)]
+pub struct DateTold {
+    pub refusal: u32,
+    pub year: u32,
+    pub month: u32,
+    pub day: u32,
+    pub weekday: u32,
+    pub hour: u32,
+    pub minute: u32,
+}
+
+#[repr(C)]
+pub struct MinuteTold {
+    pub refusal: u32,
+    pub minute: u32,
+}
+
+pub fn tell_rota(a: RotaAnswer) -> RotaTold
+    ensures { λ r. ⌜ r ≡ rotaTold (rotaGiven a) ⌝ }
+{
+    match a {
+        RotaAnswer::Accepted(n) => RotaTold {
+            refusal: 0,
+            cycle: n.cycle,
+            hours: n.hours,
+            users: n.users,
+            permissions: n.permissions,
+            roles: n.roles,
+            user_rows: n.user_rows,
+            permission_rows: n.permission_rows,
+        },
+        RotaAnswer::Refused(n) => RotaTold {
+            refusal: n as u32,
+            cycle: 0,
+            hours: 0,
+            users: 0,
+            permissions: 0,
+            roles: 0,
+            user_rows: 0,
+            permission_rows: 0,
+        },
+    }
+}
+
+pub fn tell_table(a: TableAnswer) -> TableTold
+    ensures { λ r. ⌜ r ≡ tableTold (tableGiven a) ⌝ }
+{
+    match a {
+        TableAnswer::Accepted(n) => TableTold {
+            refusal: 0,
+            cycle: n.cycle,
+            users: n.users,
+            permissions: n.permissions,
+            roles: n.roles,
+            derived: n.derived,
+            rows: n.rows,
+        },
+        TableAnswer::Refused(n) => TableTold {
+            refusal: n as u32,
+            cycle: 0,
+            users: 0,
+            permissions: 0,
+            roles: 0,
+            derived: 0,
+            rows: 0,
+        },
+    }
+}
+
+pub fn tell_written(a: Rewritten) -> WrittenTold
+    ensures { λ r. ⌜ r ≡ writtenTold (writtenGiven a) ⌝ }
+{
+    match a {
+        Rewritten::Wrote {
+            derived,
+            rows,
+            length,
+        } => WrittenTold {
+            refusal: 0,
+            derived,
+            rows,
+            length: length as u64,
+        },
+        Rewritten::Refused(n) => WrittenTold {
+            refusal: n as u32,
+            derived: 0,
+            rows: 0,
+            length: 0,
+        },
+    }
+}
+
+pub fn tell_date(a: DateAnswer) -> DateTold
+    ensures { λ r. ⌜ r ≡ dateTold (dateGiven a) ⌝ }
+{
+    match a {
+        DateAnswer::On(d) => DateTold {
+            refusal: 0,
+            year: d.year,
+            month: d.month,
+            day: d.day,
+            weekday: d.weekday,
+            hour: d.hour,
+            minute: d.minute,
+        },
+        DateAnswer::Refused(n) => DateTold {
+            refusal: n as u32,
+            year: 0,
+            month: 0,
+            day: 0,
+            weekday: 0,
+            hour: 0,
+            minute: 0,
+        },
+    }
+}
+
+pub fn tell_minute(a: MinuteAnswer) -> MinuteTold
+    ensures { λ r. ⌜ r ≡ minuteTold (minuteGiven a) ⌝ }
+{
+    match a {
+        MinuteAnswer::At(t) => MinuteTold {
+            refusal: 0,
+            minute: t,
+        },
+        MinuteAnswer::Refused(n) => MinuteTold {
+            refusal: n as u32,
+            minute: 0,
+        },
+    }
+}
+
+// What a question or a call tells: a refusal's number, else 0; 1 for yes, else 0; the role of a yes, the count of an advance, else 0.
+#[repr(C)]
+pub struct Told {
+    pub refusal: u32,
+    pub yes: u32,
+    pub value: u32,
+}
+
+pub fn tell_answer(a: Answer) -> Told
+    ensures { λ r. ⌜ r ≡ questionTold (answerGiven a) ⌝ }
+{
+    match a {
+        Answer::Yes(r) => Told {
+            refusal: 0,
+            yes: 1,
+            value: r as u32,
+        },
+        Answer::No => Told {
+            refusal: 0,
+            yes: 0,
+            value: 0,
+        },
+        Answer::Refused(n) => Told {
+            refusal: n as u32,
+            yes: 0,
+            value: 0,
+        },
+    }
+}
+
+// The state that a call leaves, and what it tells.
+pub struct Stepped {
+    pub service: Service,
+    pub told: Told,
+}
+
+fn tell(service: Service, refusal: u32, yes: u32, value: u32) -> Stepped
+    ensures { λ r. ⌜ r ≡ leaving service (telling refusal yes value) ⌝ }
+{
+    Stepped {
+        service,
+        told: Told {
+            refusal,
+            yes,
+            value,
+        },
+    }
+}
+
+// What each call tells, and the state that it leaves.
+pub fn tell_advanced(a: Advanced) -> Stepped
+    ensures { λ r. ⌜ r ≡ steppedBy (advancedStep a) ⌝ }
+{
+    match a {
+        Advanced::Closed(n, after) => tell(after, 0, 0, n),
+        Advanced::Refused(n, after) => tell(after, n as u32, 0, 0),
+    }
+}
+
+pub fn tell_changed(a: Changed) -> Stepped
+    ensures { λ r. ⌜ r ≡ steppedBy (changedStep a) ⌝ }
+{
+    match a {
+        Changed::Done(after) => tell(after, 0, 0, 0),
+        Changed::Refused(n, after) => tell(after, n as u32, 0, 0),
+    }
+}
+
+pub fn tell_asked(a: Asked) -> Stepped
+    ensures { λ r. ⌜ r ≡ steppedBy (askedStep a) ⌝ }
+{
+    match a {
+        Asked::Yes(r, after) => tell(after, 0, 1, r as u32),
+        Asked::No(after) => tell(after, 0, 0, 0),
+        Asked::Refused(n, after) => tell(after, n as u32, 0, 0),
+    }
+}
+
+// The calls by value with a rota and with a table, told, as the calls on a lent record use them.
+pub fn rota_advance_told(service: Service, s: &[u8], m: u32) -> Stepped
+    ensures { λ r. ⌜ leaving (r .service) (r .told) ≡ steppedBy (lentStep Kind.Rota (now (s .entry)) service (advance m)) ⌝ }
+{
+    tell_advanced(service::advance(Kind::Rota, s, service, m))
+}
+
+pub fn rota_open_told(service: Service, s: &[u8], u: u32) -> Stepped
+    ensures { λ r. ⌜ leaving (r .service) (r .told) ≡ steppedBy (lentStep Kind.Rota (now (s .entry)) service («open» u)) ⌝ }
+{
+    tell_changed(service::open(Kind::Rota, s, service, u))
+}
+
+pub fn rota_close_told(service: Service, s: &[u8], u: u32) -> Stepped
+    ensures { λ r. ⌜ leaving (r .service) (r .told) ≡ steppedBy (lentStep Kind.Rota (now (s .entry)) service (close u)) ⌝ }
+{
+    tell_changed(service::close(Kind::Rota, s, service, u))
+}
+
+pub fn rota_ask_told(service: Service, s: &[u8], u: u32, p: u32) -> Stepped
+    ensures { λ r. ⌜ leaving (r .service) (r .told) ≡ steppedBy (lentStep Kind.Rota (now (s .entry)) service (ask u p)) ⌝ }
+{
+    tell_asked(service::ask(Kind::Rota, s, service, u, p))
+}
+
+pub fn table_advance_told(service: Service, s: &[u8], m: u32) -> Stepped
+    ensures { λ r. ⌜ leaving (r .service) (r .told) ≡ steppedBy (lentStep Kind.Table (now (s .entry)) service (advance m)) ⌝ }
+{
+    tell_advanced(service::advance(Kind::Table, s, service, m))
+}
+
+pub fn table_open_told(service: Service, s: &[u8], u: u32) -> Stepped
+    ensures { λ r. ⌜ leaving (r .service) (r .told) ≡ steppedBy (lentStep Kind.Table (now (s .entry)) service («open» u)) ⌝ }
+{
+    tell_changed(service::open(Kind::Table, s, service, u))
+}
+
+pub fn table_close_told(service: Service, s: &[u8], u: u32) -> Stepped
+    ensures { λ r. ⌜ leaving (r .service) (r .told) ≡ steppedBy (lentStep Kind.Table (now (s .entry)) service (close u)) ⌝ }
+{
+    tell_changed(service::close(Kind::Table, s, service, u))
+}
+
+pub fn table_ask_told(service: Service, s: &[u8], u: u32, p: u32) -> Stepped
+    ensures { λ r. ⌜ leaving (r .service) (r .told) ≡ steppedBy (lentStep Kind.Table (now (s .entry)) service (ask u p)) ⌝ }
+{
+    tell_asked(service::ask(Kind::Table, s, service, u, p))
+}
