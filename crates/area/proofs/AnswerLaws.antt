@@ -1,53 +1,80 @@
 -- What rewriting answers, and the area afterwards, by the stage at which it stops.
 -- Assumes nothing.
 use Prim.Native.Nat.{ℕ, _+_, _*_, _≤_, _<_}
-use mathlib.Core.Path.{_≡_, _∙_, ap}
+use mathlib.Core.Path.{_≡_, refl, sym, _∙_, ap}
+use mathlib.Core.Bool.{Bool, true, false}
 use mathlib.Core.List.{List, _++_}
 use native.Mathlib.Omega.{arith}
-use lib.Dec.{ltb}
+use lib.Dec.{ltb, eqb}
 use lib.ListN.{length, drop}
 use borrow.Author.Tests.{ne-eqb, lt-ltb, le-ltb}
+use Rattle.ground.specs.Choice.{pick}
 use Rattle.ground.specs.Judgement.{refuse, _orElse_}
-use Rattle.ground.specs.Outcome.{refused, given}
+use Rattle.ground.specs.Outcome.{Outcome, refused, given}
 use Rattle.ground.proofs.JudgementLaws.{orElse-ne}
 use Rattle.ground.proofs.OutcomeLaws.{outcome-refused, outcome-given}
 use Rattle.rota.specs.RotaBytes.{rotaOf}
 use Rattle.rota.specs.RotaRefusals.{rotaJudged}
-use Rattle.rota.specs.Inside.{layoutOutcome}
+use Rattle.rota.specs.Inside.{layoutOutcome, Located}
+use Rattle.rota.specs.declared.Layout.{Layout}
 use Rattle.rota.proofs.ReadLaws.{not-located}
+use Rattle.rota.proofs.RotaWellLaws.{roles-count}
+use Rattle.rota.proofs.LocatedLaws.{counted}
+use Rattle.table.specs.Table.{Table}
 use Rattle.table.specs.TableBytes.{tableBytes}
 use Rattle.derivation.specs.Rewriting.{rewrite, sizeOf, rewriteJudged, Written, writtenOf, rewriteOutcome, areaAfter}
+use Rattle.derivation.specs.Roles.{rewriteRoles}
+use Rattle.derivation.proofs.RoleByRole.{by-roles}
+use Rattle.area.specs.Parts.{placedOutcome, placedArea}
+
+module _ (τ : Table) (area : List ℕ) where
+  -- the table is longer than the area
+  pub too-long : length area < sizeOf τ → (refused 20 ≡ placedOutcome τ (length area)) × (area ≡ placedArea τ area)
+  unfolding placedOutcome placedArea refuse
+  too-long h = let e = lt-ltb (length area) (sizeOf τ) h in (rw e (outcome-refused 20 _ (λ z. absurd (omega arith))), rw e)
+
+  -- it is written
+  pub written : (d n len : ℕ) (after : List ℕ) → sizeOf τ ≤ length area → d ≡ length (τ .entries) → n ≡ length (τ .rows) → len ≡ 16 + 17 * d + 16 * n
+      → after ≡ tableBytes τ ++ drop (sizeOf τ) area → (given (record { derived = d; rows = n; length = len }) ≡ placedOutcome τ (length area)) × (after ≡ placedArea τ area)
+  unfolding placedOutcome placedArea refuse
+  written d n len after h ed en el ea = let e = le-ltb (length area) (sizeOf τ) h in (ap given same ∙ rw e (outcome-given 0 (writtenOf τ) refl), ea ∙ rw e)
+    where
+      same : _≡_ {A = Written} (record { derived = d; rows = n; length = len }) (writtenOf τ)
+      same = unfold writtenOf sizeOf in rw (el, ed, en)
 
 module _ (s area : List ℕ) where
-  stopped : (code : ℕ) → rewriteJudged s (length area) ≡ code → (code ≡ 0 → ⊥) → (refused code ≡ rewriteOutcome s (length area)) × (area ≡ areaAfter s area)
-  unfolding rewriteOutcome areaAfter
-  stopped code e ne = (rw e (outcome-refused code _ ne), rw (e, ne-eqb code 0 ne))
-
   -- the bytes are no rota
   pub not-a-rota : (code : ℕ) → refused code ≡ layoutOutcome s → (refused code ≡ rewriteOutcome s (length area)) × (area ≡ areaAfter s area)
-  unfolding rewriteJudged
+  unfolding rewriteOutcome areaAfter rewriteJudged
   not-a-rota code e =
       let r = not-located s code e in
-      stopped code (orElse-ne (rotaJudged s) (refuse 20 (ltb (length area) (sizeOf (rewrite (rotaOf s))))) (r .1) ∙ r .0) (λ z. r .1 (r .0 ∙ z))
+      let j : rotaJudged s orElse refuse 20 (ltb (length area) (sizeOf (rewrite (rotaOf s)))) ≡ code
+      = orElse-ne (rotaJudged s) (refuse 20 (ltb (length area) (sizeOf (rewrite (rotaOf s))))) (r .1) ∙ r .0 in
+      let ne : code ≡ 0 → ⊥ = λ z. r .1 (r .0 ∙ z) in
+      (rw j (outcome-refused code _ ne), rw (j, ne-eqb code 0 ne))
 
+  -- they are, and its table is put into the area
   module _ (clear : rotaJudged s ≡ 0) where
-    -- the table is longer than the area
-    pub too-long : length area < sizeOf (rewrite (rotaOf s)) → (refused 20 ≡ rewriteOutcome s (length area)) × (area ≡ areaAfter s area)
-    unfolding rewriteJudged _orElse_ refuse
-    too-long h = stopped 20 (rw (clear, lt-ltb (length area) (sizeOf (rewrite (rotaOf s))) h)) (λ z. absurd (omega arith))
+    answered : placedOutcome (rewrite (rotaOf s)) (length area) ≡ rewriteOutcome s (length area)
+    unfolding placedOutcome rewriteOutcome rewriteJudged _orElse_
+    answered = rw clear
 
-    -- it is written
-    pub written : (d n len : ℕ) (after : List ℕ) → sizeOf (rewrite (rotaOf s)) ≤ length area → d ≡ length (rewrite (rotaOf s) .entries) → n ≡ length (rewrite (rotaOf s) .rows)
-        → len ≡ 16 + 17 * d + 16 * n → after ≡ tableBytes (rewrite (rotaOf s)) ++ drop (sizeOf (rewrite (rotaOf s))) area
-        → (given (record { derived = d; rows = n; length = len }) ≡ rewriteOutcome s (length area)) × (after ≡ areaAfter s area)
-    unfolding rewriteOutcome areaAfter writtenOf
-    written d n len after h ed en el ea =
-        let j = judged h in
-        (ap given (same ed en el) ∙ outcome-given (rewriteJudged s (length area)) (writtenOf (rewrite (rotaOf s))) j, ea ∙ rw j)
+    left : placedArea (rewrite (rotaOf s)) area ≡ areaAfter s area
+    unfolding placedArea areaAfter rewriteJudged _orElse_
+    left = rw clear (by-test (ltb (length area) (sizeOf (rewrite (rotaOf s)))))
       where
-        judged : sizeOf (rewrite (rotaOf s)) ≤ length area → rewriteJudged s (length area) ≡ 0
-        judged h = unfold rewriteJudged _orElse_ refuse in rw (clear, le-ltb (length area) (sizeOf (rewrite (rotaOf s))) h)
+        by-test : (b : Bool) → pick b area (tableBytes (rewrite (rotaOf s)) ++ drop (sizeOf (rewrite (rotaOf s))) area)
+            ≡ pick (eqb (refuse 20 b) 0) (tableBytes (rewrite (rotaOf s)) ++ drop (sizeOf (rewrite (rotaOf s))) area) area
+        by-test true = unfold refuse in refl
+        by-test false = unfold refuse in refl
 
-        same : d ≡ length (rewrite (rotaOf s) .entries) → n ≡ length (rewrite (rotaOf s) .rows) → len ≡ 16 + 17 * d + 16 * n
-            → _≡_ {A = Written} (record { derived = d; rows = n; length = len }) (writtenOf (rewrite (rotaOf s)))
-        same p q r = unfold writtenOf sizeOf in rw (r, p, q)
+    -- where it is that of all roles
+    pub rewritten : (τ : Table) → rewrite (rotaOf s) ≡ τ → (x : Outcome Written) (after : List ℕ) → (x ≡ placedOutcome τ (length area)) × (after ≡ placedArea τ area)
+        → (x ≡ rewriteOutcome s (length area)) × (after ≡ areaAfter s area)
+    rewritten τ e x after q = (
+      q .0 ∙ ap (λ (y : Table). placedOutcome y (length area)) (sym e) ∙ answered,
+      q .1 ∙ ap (λ (y : Table). placedArea y area) (sym e) ∙ left,
+    )
+
+pub all-roles : (s : List ℕ) (l : Layout) → Located s l → rewrite (rotaOf s) ≡ rewriteRoles (rotaOf s) 0 (l .counts .roles)
+all-roles s l w = by-roles (rotaOf s) ∙ ap (rewriteRoles (rotaOf s) 0) (roles-count s ∙ sym (counted s l w .roles))

@@ -18,9 +18,10 @@ use Rattle.rota.specs.RotaBytes.{rotaOf}
 use Rattle.rota.specs.declared.Layout.{Layout}
 use Rattle.rota.proofs.RotaWellLaws.{roles-count}
 use Rattle.table.specs.TableBytes.{headerBytes, entryBytes, rowBytes, tableBytes}
-use Rattle.derivation.specs.Rewriting.{rewrite, sizeOf, rewriteOutcome, areaAfter}
+use Rattle.derivation.specs.Rewriting.{sizeOf}
+use Rattle.derivation.specs.Roles.{rewriteRoles}
 use Rattle.rota.specs.Inside.{Located}
-use Rattle.area.specs.Parts.{HeaderFits, started}
+use Rattle.area.specs.Parts.{HeaderFits, started, placedOutcome, placedArea}
 use Rattle.counting.specs.Parts.{lengthWith, CountedTo}
 use Rattle.area.proofs.AnswerLaws.{too-long, written}
 use Rattle.derive.specs.declared.Count.{Count}
@@ -69,22 +70,21 @@ module _ (s : List ℕ) (l : Layout) (w : Located s l) where
         roles = omega (arith, q .roles, h .roles-most);
       }
 
-  module _ (d n : ℕ) (ed : d ≡ length (rewrite (rotaOf s) .entries)) (en : n ≡ length (rewrite (rotaOf s) .rows)) where
-    header-is : headerBytes (l .counts .cycle) (l .counts .users) (l .counts .permissions) (l .counts .roles) d n
-        ≡ headerBytes (rewrite (rotaOf s) .cycle) (rewrite (rotaOf s) .users) (rewrite (rotaOf s) .permissions) (rewrite (rotaOf s) .roles)
-        (length (rewrite (rotaOf s) .entries)) (length (rewrite (rotaOf s) .rows))
-    unfolding rewrite rotaOf
+  module _ (first end : ℕ) (d n : ℕ) (ed : d ≡ length (rewriteRoles (rotaOf s) first end .entries)) (en : n ≡ length (rewriteRoles (rotaOf s) first end .rows)) where
+    header-is : let τ = rewriteRoles (rotaOf s) first end in headerBytes (l .counts .cycle) (l .counts .users) (l .counts .permissions) (l .counts .roles) d n
+        ≡ headerBytes (τ .cycle) (τ .users) (τ .permissions) (τ .roles) (length (τ .entries)) (length (τ .rows))
+    unfolding rewriteRoles rotaOf
     header-is =
         let q = counted s l w in
         rw (q .cycle, q .users, q .permissions, q .roles ∙ sym (roles-count s), ed, en)
 
-    pub table-written : (out out₁ out₂ : List ℕ) → sizeOf (rewrite (rotaOf s)) ≤ length out
+    pub table-written : (out out₁ out₂ : List ℕ) → sizeOf (rewriteRoles (rotaOf s) first end) ≤ length out
         → out₁ ≡ sets out 0 (headerBytes (l .counts .cycle) (l .counts .users) (l .counts .permissions) (l .counts .roles) d n)
-        → out₂ ≡ sets (sets out₁ 16 (joined entryBytes (rewrite (rotaOf s) .entries))) (16 + 17 * d) (joined rowBytes (rewrite (rotaOf s) .rows))
-        → out₂ ≡ tableBytes (rewrite (rotaOf s)) ++ drop (sizeOf (rewrite (rotaOf s))) out
+        → out₂ ≡ sets (sets out₁ 16 (joined entryBytes (rewriteRoles (rotaOf s) first end .entries))) (16 + 17 * d) (joined rowBytes (rewriteRoles (rotaOf s) first end .rows))
+        → out₂ ≡ tableBytes (rewriteRoles (rotaOf s) first end) ++ drop (sizeOf (rewriteRoles (rotaOf s) first end)) out
     unfolding tableBytes sizeOf
     table-written out out₁ out₂ h e₁ e₂ =
-        let τ = rewrite (rotaOf s) in
+        let τ = rewriteRoles (rotaOf s) first end in
         let e = joined entryBytes (τ .entries) in
         let r = joined rowBytes (τ .rows) in
         let le : length e ≡ 17 * length (τ .entries) = joined-length entryBytes 17 entry-long (τ .entries) in
@@ -95,17 +95,18 @@ module _ (s : List ℕ) (l : Layout) (w : Located s l) where
         ∙ ap₂ (λ (x y : ℕ). tableBytes τ ++ drop (16 + x + y) out) le lr
 
   -- what becomes of an area once its header is written or not
-  module _ (area : List ℕ) (k : Count) (q : CountedTo s (length area) k) (b : Bool) (after : List ℕ) (eb : b ≡ leb (lengthWith (k .entries) (k .rows)) (length area))
+  module _ (first end : ℕ) (area : List ℕ) (k : Count) (q : CountedTo (rewriteRoles (rotaOf s) first end) (length area) k) (b : Bool) (after : List ℕ)
+      (eb : b ≡ leb (lengthWith (k .entries) (k .rows)) (length area))
       (ea : after ≡ started area (countsWith l (k .entries) (k .rows)) (lengthWith (k .entries) (k .rows))) where
     begun : b ≡ true → (lengthWith (k .entries) (k .rows) ≤ length area)
         × (after ≡ sets area 0 (headerBytes (l .counts .cycle) (l .counts .users) (l .counts .permissions) (l .counts .roles) (k .entries) (k .rows)))
     begun t = started-yes area (countsWith l (k .entries) (k .rows)) (lengthWith (k .entries) (k .rows)) b after eb t ea
 
-    fits-so : lengthWith (k .entries) (k .rows) ≤ length area → sizeOf (rewrite (rotaOf s)) ≤ length area
+    fits-so : lengthWith (k .entries) (k .rows) ≤ length area → sizeOf (rewriteRoles (rotaOf s) first end) ≤ length area
     unfolding sizeOf
     fits-so h = let z = q .exact h in omega (arith, z .0, z .1)
 
-    pub can-write : b ≡ true → (k .entries ≡ length (rewrite (rotaOf s) .entries)) × (sizeOf (rewrite (rotaOf s)) ≤ length after)
+    pub can-write : b ≡ true → (k .entries ≡ length (rewriteRoles (rotaOf s) first end .entries)) × (sizeOf (rewriteRoles (rotaOf s) first end) ≤ length after)
     can-write t =
         let g = begun t in (
           q .exact (g .0) .0,
@@ -118,17 +119,19 @@ module _ (s : List ℕ) (l : Layout) (w : Located s l) where
         )
 
     pub has-written : b ≡ true → (last : List ℕ)
-        → last ≡ sets (sets after 16 (joined entryBytes (rewrite (rotaOf s) .entries))) (16 + 17 * k .entries) (joined rowBytes (rewrite (rotaOf s) .rows))
-        → (given (record { derived = k .entries; rows = k .rows; length = lengthWith (k .entries) (k .rows) }) ≡ rewriteOutcome s (length area)) × (last ≡ areaAfter s area)
+        → last ≡ sets (sets after 16 (joined entryBytes (rewriteRoles (rotaOf s) first end .entries))) (16 + 17 * k .entries)
+        (joined rowBytes (rewriteRoles (rotaOf s) first end .rows))
+        → (given (record { derived = k .entries; rows = k .rows; length = lengthWith (k .entries) (k .rows) }) ≡ placedOutcome (rewriteRoles (rotaOf s) first end) (length area))
+        × (last ≡ placedArea (rewriteRoles (rotaOf s) first end) area)
     has-written t last e =
         let g = begun t in
         let z = q .exact (g .0) in
         let f = fits-so (g .0) in
-        written s area (w .accepted) (k .entries) (k .rows) (lengthWith (k .entries) (k .rows)) last f (z .0) (z .1) refl
-        (table-written (k .entries) (k .rows) (z .0) (z .1) area after last f (g .1) e)
+        written (rewriteRoles (rotaOf s) first end) area (k .entries) (k .rows) (lengthWith (k .entries) (k .rows)) last f (z .0) (z .1) refl
+        (table-written first end (k .entries) (k .rows) (z .0) (z .1) area after last f (g .1) e)
 
-    pub has-not : b ≡ false → (refused 20 ≡ rewriteOutcome s (length area)) × (after ≡ areaAfter s area)
+    pub has-not : b ≡ false → (refused 20 ≡ placedOutcome (rewriteRoles (rotaOf s) first end) (length area)) × (after ≡ placedArea (rewriteRoles (rotaOf s) first end) area)
     has-not t =
         let g = started-no area (countsWith l (k .entries) (k .rows)) (lengthWith (k .entries) (k .rows)) b after eb t ea in
-        let z = too-long s area (w .accepted) (q .over (g .0)) in
+        let z = too-long (rewriteRoles (rotaOf s) first end) area (q .over (g .0)) in
         (z .0, g .1 ∙ z .1)

@@ -1,12 +1,24 @@
--- What the steps of the rewriting promise one another.
+-- What the steps of the rewriting promise one another: a table put into an area.
 use Prim.Native.Nat.{ℕ, _<_}
-use mathlib.Core.List.{List}
-use lib.Dec.{leb}
-use lib.ListN.{length}
+use mathlib.Core.List.{List, _++_}
+use lib.Dec.{ltb, leb}
+use lib.ListN.{length, drop}
 use lib.Seq.{sets}
 use Rattle.ground.specs.Choice.{pick}
-use Rattle.table.specs.TableBytes.{headerBytes}
+use Rattle.ground.specs.Judgement.{refuse}
+use Rattle.ground.specs.Outcome.{Outcome, outcome}
+use Rattle.table.specs.Table.{Table}
+use Rattle.table.specs.TableBytes.{headerBytes, tableBytes}
+use Rattle.derivation.specs.Rewriting.{sizeOf, Written, writtenOf}
 use Rattle.table.specs.declared.Counts.{Counts}
+
+-- what is told of a table that is put into an area with so much room: 20 exactly where it is longer
+unfoldable pub placedOutcome : Table → ℕ → Outcome Written
+placedOutcome τ room = outcome (refuse 20 (ltb room (sizeOf τ))) (writtenOf τ)
+
+-- the area afterwards: the table's bytes at its start, or as it came where they do not fit
+unfoldable pub placedArea : Table → List ℕ → List ℕ
+placedArea τ area = pick (ltb (length area) (sizeOf τ)) area (tableBytes τ ++ drop (sizeOf τ) area)
 
 -- the area with a header at its start, where it has room for the table, else as it came
 unfoldable pub started : List ℕ → Counts → ℕ → List ℕ

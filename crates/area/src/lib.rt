@@ -3,14 +3,16 @@ ghost use mathlib.Core.Path.{_≡_};
 ghost use Prim.Native.Nat.{_*_, _≤_};
 ghost use lib.ListN.{length};
 ghost use Rattle.rota.specs.Inside.{Located};
-ghost use Rattle.derivation.specs.Rewriting.{rewriteOutcome, areaAfter};
+ghost use Rattle.rota.specs.RotaBytes.{rolesOf, rotaOf};
+ghost use Rattle.derivation.specs.Roles.{rewriteRoles};
 ghost use Rattle.derive.specs.Derive.{Room};
 ghost use Rattle.grid.specs.Grid.{Divided, Laid};
 ghost use Rattle.counting.specs.Parts.{CountedTo};
 ghost use lib.Dec.{leb};
-ghost use Rattle.area.specs.Parts.{HeaderFits, started};
+ghost use Rattle.area.specs.Parts.{HeaderFits, started, placedOutcome, placedArea};
 ghost use Rattle.area.specs.Answers.{writtenGiven};
 use derive::Count;
+use grid::Division;
 use rota::Layout;
 
 // The numbers of derived roles and of rows, and the length, of a table that was written; or a refusal.
@@ -35,24 +37,23 @@ fn start_table(out: &mut [u8], header: table::Counts, size: usize) -> bool
     true
 }
 
-// Writes the table where it fits the area: 20 where it does not.
+// Writes the table of the roles from `first` on, up to `end`, where it fits the area: 20 where it does not.
 fn write_table(
     s: &[u8],
     l: Layout,
+    first: u8,
+    end: u8,
     out: &mut [u8],
     k: Count,
-    eras: &[u32; 66],
-    ne: usize,
-    cells: &[u32; 514],
-    nc: usize,
+    division: Division,
     masks: &[u64],
-    us: &mut [u64],
-    ps: &mut [u64],
-    marks: &mut [u16],
-    links: &mut [u16],
+    pairs: &mut [u64],
+    work: &mut [u16],
 ) -> Rewritten
-    requires { ⌜ Located (now s) l × Laid (now s) (now eras) (now cells) (now masks) ne nc × CountedTo (now s) (length (now out)) k × Room (ne * nc) (now masks) (now us) (now ps) (now marks) (now links) ⌝ }
-    ensures { λ r. ⌜ (writtenGiven r ≡ rewriteOutcome (now (s .entry)) (length (now (out .entry)))) × (now (out .exit) ≡ areaAfter (now (s .entry)) (now (out .entry))) ⌝ }
+    requires { ⌜ Located (now s) l × (first ≤ end) × (end ≤ rolesOf (now s)) × CountedTo (rewriteRoles (rotaOf (now s)) first end) (length (now out)) k ⌝ }
+    requires { ⌜ Laid (now s) division (now masks) × Room (division .«era_count» * division .«cell_count») (now masks) (now pairs) (now work) ⌝ }
+    ensures { λ r. ⌜ (writtenGiven r ≡ placedOutcome (rewriteRoles (rotaOf (now (s .entry))) first end) (length (now (out .entry))))
+        × (now (out .exit) ≡ placedArea (rewriteRoles (rotaOf (now (s .entry))) first end) (now (out .entry))) ⌝ }
 {
     let d = k.entries;
     let rows = k.rows;
@@ -67,21 +68,7 @@ fn write_table(
         rows: rows as u32,
     };
     if start_table(out, header, size) {
-        filling::write_all(
-            s,
-            l,
-            out,
-            d,
-            eras,
-            ne,
-            cells,
-            nc,
-            masks,
-            us,
-            ps,
-            marks,
-            links,
-        );
+        filling::write_all(s, l, first, end, out, d, division, masks, pairs, work);
         return Rewritten::Wrote {
             derived: d as u32,
             rows: rows as u32,
@@ -91,40 +78,25 @@ fn write_table(
     Rewritten::Refused(20)
 }
 
-// Rewrites a rota that is read and divided, in lent scratch with a place for each field.
+// Rewrites the roles from `first` on, up to `end`, of a rota that is read and divided, in lent scratch with a place for each field.
 pub fn rewrite_with(
     s: &[u8],
     l: Layout,
+    first: u8,
+    end: u8,
     out: &mut [u8],
-    eras: &[u32; 66],
-    ne: usize,
-    cells: &[u32; 514],
-    nc: usize,
+    division: Division,
     masks: &mut [u64],
-    us: &mut [u64],
-    ps: &mut [u64],
-    marks: &mut [u16],
-    links: &mut [u16],
+    pairs: &mut [u64],
+    work: &mut [u16],
 ) -> Rewritten
-    requires { ⌜ Located (now s) l × Divided (now s) (now eras) (now cells) ne nc × Room (ne * nc) (now masks) (now us) (now ps) (now marks) (now links) ⌝ }
-    ensures { λ r. ⌜ (writtenGiven r ≡ rewriteOutcome (now (s .entry)) (length (now (out .entry)))) × (now (out .exit) ≡ areaAfter (now (s .entry)) (now (out .entry))) ⌝ }
+    requires { ⌜ Located (now s) l × (first ≤ end) × (end ≤ rolesOf (now s)) ⌝ }
+    requires { ⌜ Divided (now s) division × Room (division .«era_count» * division .«cell_count») (now masks) (now pairs) (now work) ⌝ }
+    ensures { λ r. ⌜ (writtenGiven r ≡ placedOutcome (rewriteRoles (rotaOf (now (s .entry))) first end) (length (now (out .entry))))
+        × (now (out .exit) ≡ placedArea (rewriteRoles (rotaOf (now (s .entry))) first end) (now (out .entry))) ⌝ }
 {
-    let n = l.counts;
-    grid::lay(s, n.cycle, n.hours as usize, eras, ne, cells, nc, masks);
-    let k = counting::count_all(s, l, masks, ne * nc, out.len(), us, ps, marks, links);
-    write_table(
-        s,
-        l,
-        out,
-        k,
-        eras,
-        ne,
-        cells,
-        nc,
-        masks,
-        us,
-        ps,
-        marks,
-        links,
-    )
+    grid::lay(s, l, division, masks);
+    let fields = division.era_count * division.cell_count;
+    let k = counting::count_all(s, l, first, end, masks, fields, out.len(), pairs, work);
+    write_table(s, l, first, end, out, k, division, masks, pairs, work)
 }

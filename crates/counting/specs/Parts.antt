@@ -1,19 +1,18 @@
 -- What counting promises.
 use Prim.Native.Nat.{ℕ, _+_, _*_, _≤_, _<_}
 use mathlib.Core.Path.{_≡_}
-use mathlib.Core.List.{List}
 use lib.ListN.{length}
-use Rattle.rota.specs.RotaBytes.{rotaOf}
-use Rattle.derivation.specs.Rewriting.{rewrite, sizeOf}
+use Rattle.table.specs.Table.{Table}
+use Rattle.derivation.specs.Rewriting.{sizeOf}
 use Rattle.derive.specs.declared.Count.{Count}
 
 -- the length of a table with so many entries and rows
 abbrev pub lengthWith : ℕ → ℕ → ℕ
 lengthWith d rows = 16 + 17 * d + 16 * rows
 
--- counts that are the table's, or already too many for the room
-pub record CountedTo (s : List ℕ) (room : ℕ) (k : Count) : Type 0 where
+-- counts that are a table's, or already too many for the room
+pub record CountedTo (τ : Table) (room : ℕ) (k : Count) : Type 0 where
   pub few : k .entries ≤ 1067040
   pub few-rows : k .rows ≤ 1067040
-  pub exact : lengthWith (k .entries) (k .rows) ≤ room → (k .entries ≡ length (rewrite (rotaOf s) .entries)) × (k .rows ≡ length (rewrite (rotaOf s) .rows))
-  pub over : room < lengthWith (k .entries) (k .rows) → room < sizeOf (rewrite (rotaOf s))
+  pub exact : lengthWith (k .entries) (k .rows) ≤ room → (k .entries ≡ length (τ .entries)) × (k .rows ≡ length (τ .rows))
+  pub over : room < lengthWith (k .entries) (k .rows) → room < sizeOf τ

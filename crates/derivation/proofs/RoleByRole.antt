@@ -1,6 +1,7 @@
 -- The rewriting role by role, as a loop over the roles goes about it: the table's entries are those of the roles in order, and so are its rows,
 -- with each role's derived roles counted on from those of the roles before.
 --     entries-by-role, rows-by-role  they are the table's
+--     by-roles                       the table is that of the roles from the first to the last
 --     entries-next, rows-next        one role more; entries-none, rows-none where no role is left
 --     entriesAt-derived              what holds of one role's derived roles
 -- Assumes nothing.
@@ -17,7 +18,7 @@ use Rattle.rota.specs.Rota.{Rota}
 use Rattle.table.specs.Table.{Entry}
 use Rattle.derivation.specs.Distinct.{addAll, placeOf}
 use Rattle.derivation.specs.Rewriting.{fields, Kept, keptOf, keptFrom, kept, same, entriesOf, rowOf, rewrite}
-use Rattle.derivation.specs.Roles.{entriesAt, rowAt, rowsAt, entriesFrom, rowsFrom}
+use Rattle.derivation.specs.Roles.{entriesAt, rowAt, rowsAt, entriesFrom, rowsFrom, rewriteRoles}
 use Rattle.derivation.proofs.TableDistinct.{there, addAll-append, addAll-skip, place-more, place-skip}
 use Rattle.derivation.proofs.TableKept.{entry, other-source, entries-there, entries-all, DerivedOf, keptOf-entries, keptFrom-source}
 
@@ -88,6 +89,14 @@ module _ (ρ : Rota) where
   rows-by-role =
       ap (λ (es : List Entry). map (rowOf es) (keptFrom ρ (length (ρ .roles)) 0)) (entries-are (length (ρ .roles)) 0)
       ∙ rows-are (length (ρ .roles)) 0 [] tt
+
+  pub by-roles : rewrite ρ ≡ rewriteRoles ρ 0 (length (ρ .roles))
+  unfolding rewriteRoles rewrite
+  by-roles =
+      let e : length (ρ .roles) ≡ length (ρ .roles) - 0 = omega arith in
+      let es : rewrite ρ .entries ≡ entriesFrom ρ (length (ρ .roles) - 0) 0 = entries-by-role ∙ ap (λ (k : ℕ). entriesFrom ρ k 0) e in
+      let ws : rewrite ρ .rows ≡ rowsFrom ρ (length (ρ .roles) - 0) 0 0 = rows-by-role ∙ ap (λ (k : ℕ). rowsFrom ρ k 0 0) e in
+      λ i. record { cycle = ρ .cycle; users = ρ .users; permissions = ρ .permissions; roles = length (ρ .roles); entries = es i; rows = ws i }
 
   -- one role more of `roles`, and none left: what a loop over the roles has still to do
   pub entries-next : (roles r : ℕ) → r < roles → entriesFrom ρ (roles - r) r ≡ entriesAt ρ r ++ entriesFrom ρ (roles - (r + 1)) (r + 1)

@@ -1,12 +1,12 @@
 -- The rewriting role by role, and one role by the masks of its fields, as the code goes about it. Nothing here is part of the rules: each definition
 -- is proved to give what the rules give.
-use Prim.Native.Nat.{ℕ, zero, suc, _+_}
+use Prim.Native.Nat.{ℕ, zero, suc, _+_, _-_}
 use mathlib.Core.Option.{Option, none, some}
 use mathlib.Core.List.{List, [], _∷_, _++_, map}
 use lib.ListN.{length}
 use Rattle.minutes.specs.Minutes.{Window}
 use Rattle.rota.specs.Rota.{Rota}
-use Rattle.table.specs.Table.{Entry, Row}
+use Rattle.table.specs.Table.{Entry, Row, Table}
 use Rattle.derivation.specs.Distinct.{addNew, placeOf}
 use Rattle.derivation.specs.Rewriting.{fields, Kept, keptOf, same, entriesOf}
 
@@ -30,6 +30,18 @@ entriesFrom ρ (suc n) r = entriesAt ρ r ++ entriesFrom ρ n (suc r)
 unfoldable pub rowsFrom : Rota → ℕ → ℕ → ℕ → List Row
 rowsFrom ρ zero r base = []
 rowsFrom ρ (suc n) r base = rowsAt ρ r base ++ rowsFrom ρ n (suc r) (base + length (entriesAt ρ r))
+
+-- the table of the roles from `first` on, up to `end`, with the header of the whole rota's
+unfoldable pub rewriteRoles : Rota → ℕ → ℕ → Table
+rewriteRoles ρ first end =
+    record {
+      cycle = ρ .cycle;
+      users = ρ .users;
+      permissions = ρ .permissions;
+      roles = length (ρ .roles);
+      entries = entriesFrom ρ (end - first) first;
+      rows = rowsFrom ρ (end - first) first 0;
+    }
 
 -- the derived roles after one more field, and the field's mark: 0 where it is not kept, else one more than the place of its derived role
 unfoldable pub nextEntries : List Entry → Option Entry → List Entry

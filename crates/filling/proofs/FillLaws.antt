@@ -10,27 +10,29 @@ use Rattle.ground.specs.Sequence.{joined}
 use Rattle.ground.proofs.SequenceLaws.{joined-append}
 use Rattle.endian.proofs.WrittenLaws.{sets-comm, sets-append}
 use Rattle.endian.proofs.StandsLaws.{joined-length}
-use Rattle.rota.specs.RotaBytes.{rolesOf, rotaOf}
-use Rattle.table.specs.Table.{Entry, Row}
+use Rattle.rota.specs.RotaBytes.{rotaOf}
+use Rattle.table.specs.Table.{Entry, Row, Table}
 use Rattle.table.specs.TableBytes.{entryBytes, rowBytes}
 use Rattle.derivation.specs.Cuts.{gaps}
-use Rattle.derivation.specs.Rewriting.{fieldsOf, fields, rewrite, sizeOf}
-use Rattle.derivation.specs.Roles.{entriesAt, rowsAt, entriesFrom, rowsFrom, rowsMarked}
+use Rattle.derivation.specs.Rewriting.{fieldsOf, fields, sizeOf}
+use Rattle.derivation.specs.Roles.{entriesAt, rowsAt, entriesFrom, rowsFrom, rewriteRoles, rowsMarked}
 use Rattle.derivation.proofs.RoleByRole.{entries-next, rows-next, entries-none, rows-none}
 use Rattle.index.specs.Entries.{entriesTo}
 use Rattle.derive.specs.declared.Count.{Count}
 use Rattle.grid.specs.Grid.{Cuts, Laid}
+use Rattle.grid.specs.declared.Division.{Division}
 use Rattle.roles.specs.Parts.{RoleDerived}
 use Rattle.writing.specs.Parts.{roleRows}
 use Rattle.writing.proofs.WriteLaws.{entry-long, row-long}
-use Rattle.counting.proofs.CountLaws.{all-entries, all-rows}
 
--- the arrays have the rota's fields
-pub role-rows-are : (s eras cells masks : List ℕ) (ne nc : ℕ) → Laid s eras cells masks ne nc → (r : ℕ) (us ps marks : List ℕ) (k : Count)
-    → RoleDerived s r (ne * nc) us ps marks k → (base : ℕ) → roleRows base eras ne cells nc marks ≡ rowsAt (rotaOf s) r base
+-- the cuts have the rota's fields
+pub role-rows-are : (s : List ℕ) (d : Division) (masks : List ℕ) → Laid s d masks → (r : ℕ) (pairs work : List ℕ) (k : Count)
+    → RoleDerived s r (d .«era_count» * d .«cell_count») pairs work k
+    → (base : ℕ) → roleRows base (d .eras) (d .«era_count») (d .cells) (d .«cell_count») work ≡ rowsAt (rotaOf s) r base
 unfolding roleRows fields
-role-rows-are s eras cells masks ne nc l r us ps marks k d base =
-    ap₂ (λ (x y : List ℕ). rowsMarked base (fieldsOf (gaps x) (gaps y)) (take (ne * nc) marks)) (l .divided .era-cuts .are) (l .divided .cell-cuts .are) ∙ d .rows-are base
+role-rows-are s d masks l r pairs work k q base =
+    ap₂ (λ (x y : List ℕ). rowsMarked base (fieldsOf (gaps x) (gaps y)) (take (d .«era_count» * d .«cell_count») work)) (l .divided .era-cuts .are) (l .divided .cell-cuts .are)
+    ∙ q .rows-are base
 
 -- cells fit two bytes
 pub cells-fit : {l a : List ℕ} {n top : ℕ} → top ≤ 65535 → Cuts l a n top → Cuts (take (n + 1) a) a n 65535
@@ -43,69 +45,73 @@ two-runs l a p b q e e′ r r′ eb eq h =
     (sets-comm (sets l a e) b p e′ r h ∙ ap (λ (y : ℕ). sets (sets (sets l a e) y e′) p r) eb ∙ ap (λ (x : List ℕ). sets x p r) (sets-append l a e e′)) eq
     ∙ sets-append (sets l a (e ++ e′)) p r r′
 
--- d entries before role r are written, and the rows before it, up to p
-pub record Filling (s : List ℕ) (total : ℕ) (out₀ out : List ℕ) (d p r : ℕ) : Type 0 where
-  pub within : r ≤ rolesOf s
+-- of the roles from `first` to `end`, d entries before role r are written, and the rows before it, up to p
+pub record Filling (s : List ℕ) (first end total : ℕ) (out₀ out : List ℕ) (d p r : ℕ) : Type 0 where
+  pub within : r ≤ end
+  pub few-roles : end ≤ 32
   pub long : length out ≡ length out₀
   pub few : d ≤ 33345 * r
-  pub entries-left : d + length (entriesFrom (rotaOf s) (rolesOf s - r) r) ≡ total
-  pub rows-left : p + 16 * length (rowsFrom (rotaOf s) (rolesOf s - r) r d) ≡ 16 + 17 * total + 16 * length (rewrite (rotaOf s) .rows)
+  pub entries-left : d + length (entriesFrom (rotaOf s) (end - r) r) ≡ total
+  pub rows-left : p + 16 * length (rowsFrom (rotaOf s) (end - r) r d) ≡ 16 + 17 * total + 16 * length (rewriteRoles (rotaOf s) first end .rows)
   pub past : 16 + 17 * total ≤ p
   pub bytes :
-      sets (sets out (16 + 17 * d) (joined entryBytes (entriesFrom (rotaOf s) (rolesOf s - r) r))) p (joined rowBytes (rowsFrom (rotaOf s) (rolesOf s - r) r d))
-      ≡ sets (sets out₀ 16 (joined entryBytes (rewrite (rotaOf s) .entries))) (16 + 17 * total) (joined rowBytes (rewrite (rotaOf s) .rows))
+      sets (sets out (16 + 17 * d) (joined entryBytes (entriesFrom (rotaOf s) (end - r) r))) p (joined rowBytes (rowsFrom (rotaOf s) (end - r) r d))
+      ≡ sets (sets out₀ 16 (joined entryBytes (rewriteRoles (rotaOf s) first end .entries))) (16 + 17 * total) (joined rowBytes (rewriteRoles (rotaOf s) first end .rows))
 
-module _ (s : List ℕ) (total : ℕ) where
-  pub filling-start : (out : List ℕ) → total ≡ length (rewrite (rotaOf s) .entries) → Filling s total out out 0 (16 + 17 * total) 0
-  filling-start out e =
+module _ (s : List ℕ) (first end total : ℕ) where
+  pub filling-start : (out : List ℕ) → first ≤ end → end ≤ 32 → total ≡ length (rewriteRoles (rotaOf s) first end .entries)
+      → Filling s first end total out out 0 (16 + 17 * total) first
+  unfolding rewriteRoles
+  filling-start out h m e =
       record {
-        within = omega arith;
+        within = h;
+        few-roles = m;
         long = refl;
         few = omega arith;
-        entries-left = omega (arith, ap length (all-entries s));
-        rows-left = omega (arith, ap length (all-rows s));
+        entries-left = omega arith;
+        rows-left = omega arith;
         past = omega arith;
-        bytes =
-            ap₂ (λ (x : List Entry) (y : List Row). sets (sets out 16 (joined entryBytes x)) (16 + 17 * total) (joined rowBytes y)) (all-entries s) (all-rows s);
+        bytes = refl;
       }
 
-  module _ (out₀ out : List ℕ) (d p r : ℕ) (w : Filling s total out₀ out d p r) where
-    module _ (n : ℕ) (us ps marks : List ℕ) (k : Count) (h : r < rolesOf s) (few : n ≤ 33345) (q : RoleDerived s r n us ps marks k) where
-      entries-long : length (entriesFrom (rotaOf s) (rolesOf s - r) r) ≡ k .entries + length (entriesFrom (rotaOf s) (rolesOf s - (r + 1)) (r + 1))
+  module _ (out₀ out : List ℕ) (d p r : ℕ) (w : Filling s first end total out₀ out d p r) where
+    module _ (n : ℕ) (pairs work : List ℕ) (k : Count) (h : r < end) (few : n ≤ 33345) (q : RoleDerived s r n pairs work k) where
+      entries-long : length (entriesFrom (rotaOf s) (end - r) r) ≡ k .entries + length (entriesFrom (rotaOf s) (end - (r + 1)) (r + 1))
       entries-long =
-          ap length (entries-next (rotaOf s) (rolesOf s) r h) ∙ length-append (entriesAt (rotaOf s) r) (entriesFrom (rotaOf s) (rolesOf s - (r + 1)) (r + 1))
-          ∙ ap (λ (x : ℕ). x + length (entriesFrom (rotaOf s) (rolesOf s - (r + 1)) (r + 1))) (sym (q .entry-count))
+          ap length (entries-next (rotaOf s) (end) r h) ∙ length-append (entriesAt (rotaOf s) r) (entriesFrom (rotaOf s) (end - (r + 1)) (r + 1))
+          ∙ ap (λ (x : ℕ). x + length (entriesFrom (rotaOf s) (end - (r + 1)) (r + 1))) (sym (q .entry-count))
 
-      rows-long : length (rowsFrom (rotaOf s) (rolesOf s - r) r d) ≡ length (rowsAt (rotaOf s) r d) + length (rowsFrom (rotaOf s) (rolesOf s - (r + 1)) (r + 1) (d + k .entries))
+      rows-long : length (rowsFrom (rotaOf s) (end - r) r d) ≡ length (rowsAt (rotaOf s) r d) + length (rowsFrom (rotaOf s) (end - (r + 1)) (r + 1) (d + k .entries))
       rows-long =
-          ap length (rows-next (rotaOf s) (rolesOf s) r d h)
-          ∙ length-append (rowsAt (rotaOf s) r d) (rowsFrom (rotaOf s) (rolesOf s - (r + 1)) (r + 1) (d + length (entriesAt (rotaOf s) r)))
-          ∙ ap (λ (y : ℕ). length (rowsAt (rotaOf s) r d) + length (rowsFrom (rotaOf s) (rolesOf s - (r + 1)) (r + 1) (d + y))) (sym (q .entry-count))
+          ap length (rows-next (rotaOf s) (end) r d h)
+          ∙ length-append (rowsAt (rotaOf s) r d) (rowsFrom (rotaOf s) (end - (r + 1)) (r + 1) (d + length (entriesAt (rotaOf s) r)))
+          ∙ ap (λ (y : ℕ). length (rowsAt (rotaOf s) r d) + length (rowsFrom (rotaOf s) (end - (r + 1)) (r + 1) (d + y))) (sym (q .entry-count))
 
       -- there is room for this role's entries and rows
       pub entries-room : 16 + 17 * total ≤ length out₀ → 16 + 17 * d + 17 * k .entries ≤ length out
       entries-room l = omega (arith, w .entries-left, entries-long, w .long)
 
-      pub rows-room : 16 + 17 * total + 16 * length (rewrite (rotaOf s) .rows) ≤ length out₀ → p + 16 * length (rowsAt (rotaOf s) r d) ≤ length out
+      pub rows-room : 16 + 17 * total + 16 * length (rewriteRoles (rotaOf s) first end .rows) ≤ length out₀ → p + 16 * length (rowsAt (rotaOf s) r d) ≤ length out
       rows-room l = omega (arith, w .rows-left, rows-long, w .long)
 
       pub filling-turn : (out₁ out₂ : List ℕ) (p′ : ℕ) (rows : List Row) → rows ≡ rowsAt (rotaOf s) r d
-          → out₁ ≡ sets out (16 + 17 * d) (joined entryBytes (entriesTo r (k .entries) us ps))
+          → out₁ ≡ sets out (16 + 17 * d) (joined entryBytes (entriesTo r (k .entries) pairs))
           → out₂ ≡ sets out₁ p (joined rowBytes rows) → p′ ≡ p + 16 * length rows
-          → Filling s total out₀ out₂ (d + k .entries) p′ (r + 1)
+          → Filling s first end total out₀ out₂ (d + k .entries) p′ (r + 1)
       filling-turn out₁ out₂ p′ rows er e₁ e₂ ep =
           let e = joined entryBytes (entriesAt (rotaOf s) r) in
-          let e′ = joined entryBytes (entriesFrom (rotaOf s) (rolesOf s - (r + 1)) (r + 1)) in
+          let e′ = joined entryBytes (entriesFrom (rotaOf s) (end - (r + 1)) (r + 1)) in
           let f = joined rowBytes (rowsAt (rotaOf s) r d) in
-          let f′ = joined rowBytes (rowsFrom (rotaOf s) (rolesOf s - (r + 1)) (r + 1) (d + k .entries)) in
+          let f′ = joined rowBytes (rowsFrom (rotaOf s) (end - (r + 1)) (r + 1) (d + k .entries)) in
           let le : length e ≡ 17 * k .entries = joined-length entryBytes 17 entry-long (entriesAt (rotaOf s) r) ∙ ap (λ (x : ℕ). 17 * x) (sym (q .entry-count)) in
-          let le′ : length e′ ≡ 17 * length (entriesFrom (rotaOf s) (rolesOf s - (r + 1)) (r + 1)) = joined-length entryBytes 17 entry-long _ in
+          let le′ : length e′ ≡ 17 * length (entriesFrom (rotaOf s) (end - (r + 1)) (r + 1)) = joined-length entryBytes 17 entry-long _ in
           let lf : length f ≡ 16 * length (rowsAt (rotaOf s) r d) = joined-length rowBytes 16 row-long (rowsAt (rotaOf s) r d) in
           let lp : p′ ≡ p + 16 * length (rowsAt (rotaOf s) r d) = ep ∙ ap (λ (x : List Row). p + 16 * length x) er in
           let so : out₂ ≡ sets (sets out (16 + 17 * d) e) p f
           = e₂ ∙ ap₂ (λ (x : List ℕ) (y : List Row). sets x p (joined rowBytes y)) (e₁ ∙ ap (λ (x : List Entry). sets out (16 + 17 * d) (joined entryBytes x)) (q .entries-are)) er in
           record {
             within = omega arith;
+            few-roles = w .few-roles;
             long = ap length so ∙ length-sets (sets out (16 + 17 * d) e) p f ∙ length-sets out (16 + 17 * d) e ∙ w .long;
             few = omega (arith, w .few, q .few);
             entries-left = omega (arith, w .entries-left, entries-long);
@@ -115,24 +121,23 @@ module _ (s : List ℕ) (total : ℕ) where
                 ap (λ (x : List ℕ). sets (sets x (16 + 17 * (d + k .entries)) e′) p′ f′) so
                 ∙ two-runs out (16 + 17 * d) p (16 + 17 * (d + k .entries)) p′ e e′ f f′ (omega arith) (omega arith) (omega (arith, w .entries-left, entries-long, w .past))
                 ∙ ap₂ (λ (x y : List ℕ). sets (sets out (16 + 17 * d) x) p y)
-                (sym (ap (joined entryBytes) (entries-next (rotaOf s) (rolesOf s) r h)
-                ∙ joined-append entryBytes (entriesAt (rotaOf s) r) (entriesFrom (rotaOf s) (rolesOf s - (r + 1)) (r + 1))))
-                (sym (ap (joined rowBytes) (rows-next (rotaOf s) (rolesOf s) r d h)
-                ∙ joined-append rowBytes (rowsAt (rotaOf s) r d) (rowsFrom (rotaOf s) (rolesOf s - (r + 1)) (r + 1) (d + length (entriesAt (rotaOf s) r)))
-                ∙ ap (λ (y : ℕ). f ++ joined rowBytes (rowsFrom (rotaOf s) (rolesOf s - (r + 1)) (r + 1) (d + y))) (sym (q .entry-count))))
+                (sym (ap (joined entryBytes) (entries-next (rotaOf s) (end) r h)
+                ∙ joined-append entryBytes (entriesAt (rotaOf s) r) (entriesFrom (rotaOf s) (end - (r + 1)) (r + 1))))
+                (sym (ap (joined rowBytes) (rows-next (rotaOf s) (end) r d h)
+                ∙ joined-append rowBytes (rowsAt (rotaOf s) r d) (rowsFrom (rotaOf s) (end - (r + 1)) (r + 1) (d + length (entriesAt (rotaOf s) r)))
+                ∙ ap (λ (y : ℕ). f ++ joined rowBytes (rowsFrom (rotaOf s) (end - (r + 1)) (r + 1) (d + y))) (sym (q .entry-count))))
                 ∙ w .bytes;
           }
 
     -- no role is left
-    pub filling-end : r ≡ rolesOf s
-        → out ≡ sets (sets out₀ 16 (joined entryBytes (rewrite (rotaOf s) .entries))) (16 + 17 * total) (joined rowBytes (rewrite (rotaOf s) .rows))
+    pub filling-end : r ≡ end
+        → out ≡ sets (sets out₀ 16 (joined entryBytes (rewriteRoles (rotaOf s) first end .entries))) (16 + 17 * total) (joined rowBytes (rewriteRoles (rotaOf s) first end .rows))
     unfolding joined
     filling-end e =
         ap₂ (λ (x : List Entry) (y : List Row). sets (sets out (16 + 17 * d) (joined entryBytes x)) p (joined rowBytes y))
-        (sym (entries-none (rotaOf s) (rolesOf s) r (omega arith))) (sym (rows-none (rotaOf s) (rolesOf s) r d (omega arith)))
+        (sym (entries-none (rotaOf s) (end) r (omega arith))) (sym (rows-none (rotaOf s) (end) r d (omega arith)))
         ∙ w .bytes
 
-pub size-room : (s : List ℕ) (total n : ℕ) → total ≡ length (rewrite (rotaOf s) .entries) → sizeOf (rewrite (rotaOf s)) ≤ n
-    → 16 + 17 * total + 16 * length (rewrite (rotaOf s) .rows) ≤ n
+pub size-room : (τ : Table) (total n : ℕ) → total ≡ length (τ .entries) → sizeOf τ ≤ n → 16 + 17 * total + 16 * length (τ .rows) ≤ n
 unfolding sizeOf
-size-room s total n e h = omega (arith, e)
+size-room τ total n e h = omega (arith, e)

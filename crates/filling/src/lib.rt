@@ -5,45 +5,47 @@ ghost use lib.ListN.{length};
 ghost use lib.Seq.{sets};
 ghost use Rattle.ground.specs.Sequence.{joined};
 ghost use Rattle.rota.specs.Inside.{Located};
-ghost use Rattle.rota.specs.RotaBytes.{rotaOf};
+ghost use Rattle.rota.specs.RotaBytes.{rolesOf, rotaOf};
 ghost use Rattle.table.specs.TableBytes.{entryBytes, rowBytes};
-ghost use Rattle.derivation.specs.Rewriting.{rewrite, sizeOf};
+ghost use Rattle.derivation.specs.Rewriting.{sizeOf};
+ghost use Rattle.derivation.specs.Roles.{rewriteRoles};
 ghost use Rattle.derive.specs.Derive.{Room};
 ghost use Rattle.grid.specs.Grid.{Laid};
+use grid::Division;
 use rota::Layout;
 
-// Writes the entries of all roles from byte 16 on, and their rows after the `total` entries.
+// Writes the entries of the roles from `first` on, up to `end`, from byte 16 on, and their rows after the `total` entries.
 pub fn write_all(
     s: &[u8],
     l: Layout,
+    first: u8,
+    end: u8,
     out: &mut [u8],
     total: usize,
-    eras: &[u32; 66],
-    ne: usize,
-    cells: &[u32; 514],
-    nc: usize,
+    division: Division,
     masks: &[u64],
-    us: &mut [u64],
-    ps: &mut [u64],
-    marks: &mut [u16],
-    links: &mut [u16],
+    pairs: &mut [u64],
+    work: &mut [u16],
 )
-    requires { ⌜ Located (now s) l × Laid (now s) (now eras) (now cells) (now masks) ne nc × Room (ne * nc) (now masks) (now us) (now ps) (now marks) (now links) ⌝ }
-    requires { ⌜ (total ≡ length (rewrite (rotaOf (now s)) .entries)) × (sizeOf (rewrite (rotaOf (now s))) ≤ length (now out)) ⌝ }
+    requires { ⌜ Located (now s) l × (first ≤ end) × (end ≤ rolesOf (now s)) ⌝ }
+    requires { ⌜ Laid (now s) division (now masks) × Room (division .«era_count» * division .«cell_count») (now masks) (now pairs) (now work) ⌝ }
+    requires { ⌜ (total ≡ length (rewriteRoles (rotaOf (now s)) first end .entries)) × (sizeOf (rewriteRoles (rotaOf (now s)) first end) ≤ length (now out)) ⌝ }
     ensures { λ _. ⌜ now (out .exit)
-        ≡ sets (sets (now (out .entry)) 16 (joined entryBytes (rewrite (rotaOf (now (s .entry))) .entries))) (16 + 17 * total)
-        (joined rowBytes (rewrite (rotaOf (now (s .entry))) .rows)) ⌝ }
+        ≡ sets (sets (now (out .entry)) 16 (joined entryBytes (rewriteRoles (rotaOf (now (s .entry))) first end .entries))) (16 + 17 * total)
+        (joined rowBytes (rewriteRoles (rotaOf (now (s .entry))) first end .rows)) ⌝ }
 {
-    let counts = l.counts;
-    let roles = counts.roles as u8;
+    let eras = division.eras;
+    let cells = division.cells;
+    let ne = division.era_count;
+    let nc = division.cell_count;
     let mut d = 0;
     let mut p = 16 + 17 * total;
-    let mut r: u8 = 0;
-    while r < roles {
-        let k = roles::derive_role(s, l, r, masks, ne * nc, 33345, us, ps, marks, links);
+    let mut r = first;
+    while r < end {
+        let k = roles::derive_role(s, l, r, masks, ne * nc, 33345, pairs, work);
         let m = k.entries;
-        writing::write_entries(out, 16 + 17 * d, r, us, ps, m);
-        p = writing::write_rows(out, p, d as u32, eras, ne, cells, nc, marks);
+        writing::write_entries(out, 16 + 17 * d, r, pairs, m);
+        p = writing::write_rows(out, p, d as u32, &eras, ne, &cells, nc, work);
         d += m;
         r += 1;
     }

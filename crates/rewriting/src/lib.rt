@@ -3,10 +3,14 @@ ghost use mathlib.Core.Path.{_≡_};
 ghost use Prim.Native.Nat.{_*_, _≤_};
 ghost use lib.ListN.{length};
 ghost use Rattle.rota.specs.Inside.{Located};
+ghost use Rattle.rota.specs.RotaBytes.{rolesOf, rotaOf};
 ghost use Rattle.derivation.specs.Rewriting.{rewriteOutcome, areaAfter};
+ghost use Rattle.derivation.specs.Roles.{rewriteRoles};
 ghost use Rattle.grid.specs.Grid.{Divided};
+ghost use Rattle.area.specs.Parts.{placedOutcome, placedArea};
 ghost use Rattle.area.specs.Answers.{writtenGiven};
 use area::Rewritten;
+use grid::Division;
 use rota::Layout;
 use rota::LayoutAnswer;
 
@@ -14,66 +18,56 @@ use rota::LayoutAnswer;
 fn rewrite_small(
     s: &[u8],
     l: Layout,
+    first: u8,
+    end: u8,
     out: &mut [u8],
-    eras: &[u32; 66],
-    ne: usize,
-    cells: &[u32; 514],
-    nc: usize,
+    division: Division,
 ) -> Rewritten
-    requires { ⌜ Located (now s) l × Divided (now s) (now eras) (now cells) ne nc × (ne * nc ≤ 256) ⌝ }
-    ensures { λ r. ⌜ (writtenGiven r ≡ rewriteOutcome (now (s .entry)) (length (now (out .entry)))) × (now (out .exit) ≡ areaAfter (now (s .entry)) (now (out .entry))) ⌝ }
+    requires { ⌜ Located (now s) l × (first ≤ end) × (end ≤ rolesOf (now s)) × Divided (now s) division × (division .«era_count» * division .«cell_count» ≤ 256) ⌝ }
+    ensures { λ r. ⌜ (writtenGiven r ≡ placedOutcome (rewriteRoles (rotaOf (now (s .entry))) first end) (length (now (out .entry))))
+        × (now (out .exit) ≡ placedArea (rewriteRoles (rotaOf (now (s .entry))) first end) (now (out .entry))) ⌝ }
 {
     let mut masks = [0u64; 256];
-    let mut us = [0u64; 256];
-    let mut ps = [0u64; 256];
-    let mut marks = [0u16; 256];
-    let mut links = [0u16; 1024];
+    let mut pairs = [0u64; 512];
+    let mut work = [0u16; 1280];
     area::rewrite_with(
         s,
         l,
+        first,
+        end,
         out,
-        eras,
-        ne,
-        cells,
-        nc,
+        division,
         &mut masks,
-        &mut us,
-        &mut ps,
-        &mut marks,
-        &mut links,
+        &mut pairs,
+        &mut work,
     )
 }
 
 fn rewrite_middle(
     s: &[u8],
     l: Layout,
+    first: u8,
+    end: u8,
     out: &mut [u8],
-    eras: &[u32; 66],
-    ne: usize,
-    cells: &[u32; 514],
-    nc: usize,
+    division: Division,
 ) -> Rewritten
-    requires { ⌜ Located (now s) l × Divided (now s) (now eras) (now cells) ne nc × (ne * nc ≤ 4096) ⌝ }
-    ensures { λ r. ⌜ (writtenGiven r ≡ rewriteOutcome (now (s .entry)) (length (now (out .entry)))) × (now (out .exit) ≡ areaAfter (now (s .entry)) (now (out .entry))) ⌝ }
+    requires { ⌜ Located (now s) l × (first ≤ end) × (end ≤ rolesOf (now s)) × Divided (now s) division × (division .«era_count» * division .«cell_count» ≤ 4096) ⌝ }
+    ensures { λ r. ⌜ (writtenGiven r ≡ placedOutcome (rewriteRoles (rotaOf (now (s .entry))) first end) (length (now (out .entry))))
+        × (now (out .exit) ≡ placedArea (rewriteRoles (rotaOf (now (s .entry))) first end) (now (out .entry))) ⌝ }
 {
     let mut masks = [0u64; 4096];
-    let mut us = [0u64; 4096];
-    let mut ps = [0u64; 4096];
-    let mut marks = [0u16; 4096];
-    let mut links = [0u16; 8704];
+    let mut pairs = [0u64; 8192];
+    let mut work = [0u16; 12800];
     area::rewrite_with(
         s,
         l,
+        first,
+        end,
         out,
-        eras,
-        ne,
-        cells,
-        nc,
+        division,
         &mut masks,
-        &mut us,
-        &mut ps,
-        &mut marks,
-        &mut links,
+        &mut pairs,
+        &mut work,
     )
 }
 
@@ -81,55 +75,46 @@ fn rewrite_middle(
 fn rewrite_large(
     s: &[u8],
     l: Layout,
+    first: u8,
+    end: u8,
     out: &mut [u8],
-    eras: &[u32; 66],
-    ne: usize,
-    cells: &[u32; 514],
-    nc: usize,
+    division: Division,
 ) -> Rewritten
-    requires { ⌜ Located (now s) l × Divided (now s) (now eras) (now cells) ne nc ⌝ }
-    ensures { λ r. ⌜ (writtenGiven r ≡ rewriteOutcome (now (s .entry)) (length (now (out .entry)))) × (now (out .exit) ≡ areaAfter (now (s .entry)) (now (out .entry))) ⌝ }
+    requires { ⌜ Located (now s) l × (first ≤ end) × (end ≤ rolesOf (now s)) × Divided (now s) division ⌝ }
+    ensures { λ r. ⌜ (writtenGiven r ≡ placedOutcome (rewriteRoles (rotaOf (now (s .entry))) first end) (length (now (out .entry))))
+        × (now (out .exit) ≡ placedArea (rewriteRoles (rotaOf (now (s .entry))) first end) (now (out .entry))) ⌝ }
 {
     let mut masks = [0u64; 33345];
-    let mut us = [0u64; 33345];
-    let mut ps = [0u64; 33345];
-    let mut marks = [0u16; 33345];
-    let mut links = [0u16; 67202];
+    let mut pairs = [0u64; 66690];
+    let mut work = [0u16; 100547];
     area::rewrite_with(
         s,
         l,
+        first,
+        end,
         out,
-        eras,
-        ne,
-        cells,
-        nc,
+        division,
         &mut masks,
-        &mut us,
-        &mut ps,
-        &mut marks,
-        &mut links,
+        &mut pairs,
+        &mut work,
     )
 }
 
-// Rewrites a rota that is read.
-fn rewrite_located(s: &[u8], l: Layout, out: &mut [u8]) -> Rewritten
-    requires { ⌜ Located (now s) l ⌝ }
-    ensures { λ r. ⌜ (writtenGiven r ≡ rewriteOutcome (now (s .entry)) (length (now (out .entry)))) × (now (out .exit) ≡ areaAfter (now (s .entry)) (now (out .entry))) ⌝ }
+// Rewrites the roles from `first` on, up to `end`, of a rota that is read.
+fn rewrite_located(s: &[u8], l: Layout, first: u8, end: u8, out: &mut [u8]) -> Rewritten
+    requires { ⌜ Located (now s) l × (first ≤ end) × (end ≤ rolesOf (now s)) ⌝ }
+    ensures { λ r. ⌜ (writtenGiven r ≡ placedOutcome (rewriteRoles (rotaOf (now (s .entry))) first end) (length (now (out .entry))))
+        × (now (out .exit) ≡ placedArea (rewriteRoles (rotaOf (now (s .entry))) first end) (now (out .entry))) ⌝ }
 {
-    let mut eras = [0u32; 66];
-    let mut cells = [0u32; 514];
-    let n = l.counts;
-    let size = grid::divide(s, n.cycle, n.hours as usize, &mut eras, &mut cells);
-    let ne = size.eras;
-    let nc = size.cells;
-    let fields = ne * nc;
+    let division = grid::divide(s, l);
+    let fields = division.era_count * division.cell_count;
     if fields <= 256 {
-        return rewrite_small(s, l, out, &eras, ne, &cells, nc);
+        return rewrite_small(s, l, first, end, out, division);
     }
     if fields <= 4096 {
-        return rewrite_middle(s, l, out, &eras, ne, &cells, nc);
+        return rewrite_middle(s, l, first, end, out, division);
     }
-    rewrite_large(s, l, out, &eras, ne, &cells, nc)
+    rewrite_large(s, l, first, end, out, division)
 }
 
 // Rewrites a rota into an area: 1 to 12 as it is read, then 20 exactly where the table is longer than the area, which then stays as it came; else
@@ -139,6 +124,9 @@ pub fn rewrite(s: &[u8], out: &mut [u8]) -> Rewritten
 {
     match rota::locate(s) {
         LayoutAnswer::Refused(code) => Rewritten::Refused(code),
-        LayoutAnswer::Accepted(l) => rewrite_located(s, l, out),
+        LayoutAnswer::Accepted(l) => {
+            let n = l.counts;
+            rewrite_located(s, l, 0, n.roles as u8, out)
+        }
     }
 }

@@ -19,51 +19,45 @@ mul-size-2 c = search needs
 add-size-2 : tie.Need-add-size-2
 add-size-2 c = search needs
 
-cast-t22 : tie.Need-cast-t22
-cast-t22 c = search needs
+cast-t19 : tie.Need-cast-t19
+cast-t19 c = search needs
 
-cast-t23 : tie.Need-cast-t23
-cast-t23 c = search needs
+cast-t20 : tie.Need-cast-t20
+cast-t20 c = search needs
 
 start-table-requires : tie.Need-start-table-requires
-start-table-requires c κs = let a = c .before .before .before .before .before .before .before .before .before .args in (header-fits (a .s .now) (a .l) (c .before .before .before .before .before .before .before .before .before .pre .0) (a .k .entries) (a .k .rows), omega arith)
+start-table-requires c κs = let a = c .before .before .before .before .before .before .before .args in (header-fits (a .s .now) (a .l) (c .before .before .before .before .before .before .before .pre .0 .0) (a .k .entries) (a .k .rows), omega arith)
 
 write-all-requires : tie.Need-write-all-requires
-write-all-requires c κs = let a = c .before .before .before .before .before .before .before .before .before .before .before .before .before .before .before .before .before .before .args in let p = c .before .before .before .before .before .before .before .before .before .before .before .before .before .before .before .before .before .before .pre in let t = c .before .before .before .before .before .before .before .before .start-table in
-    let g = can-write (a .s .now) (a .l) (p .0) (a .out .now) (a .k) (p .2) (t .result) _ (t .ensures .0) (t .ensures .1) (c .before .before .before .before .before .if1 .taken) in
-    ((p .0, p .1, p .3), g)
+write-all-requires c κs = let a = c .before .before .before .before .before .before .before .before .before .before .before .before .before .before .args in let p = c .before .before .before .before .before .before .before .before .before .before .before .before .before .before .pre in let t = c .before .before .before .before .before .before .start-table in
+    let g = can-write (a .s .now) (a .l) (p .0 .0) (a .first) (a .end) (a .out .now) (a .k) (p .0 .3) (t .result) _ (t .ensures .0) (t .ensures .1) (c .before .before .before .if1 .taken) in
+    ((p .0 .0, p .0 .1, p .0 .2), ((p .1 .0, p .1 .1), g))
 
-cast-t38 : tie.Need-cast-t38
-cast-t38 c = search needs
+cast-t31 : tie.Need-cast-t31
+cast-t31 c = search needs
 
-cast-t39 : tie.Need-cast-t39
-cast-t39 c = search needs
+cast-t32 : tie.Need-cast-t32
+cast-t32 c = search needs
 
 same-length : tie.Need-same-length
-same-length c = c .before .before .before .before .before .before .before .before .before .before .write-all .kept .1 .1 .0 ∙ c .before .before .before .before .before .before .before .before .before .before .before .before .before .before .before .before .before .before .before .start-table .kept .0
+same-length c = c .before .before .before .before .before .before .write-all .kept .1 .1 .1 .1 .0 ∙ c .before .before .before .before .before .before .before .before .before .before .before .before .before .start-table .kept .0
 
 same-length-2 : tie.Need-same-length-2
-same-length-2 c = c .before .before .before .before .before .before .before .before .before .before .write-all .kept .1 .1 .1 .1 .1 .1 .1 .1 .1 .0
+same-length-2 c = c .before .before .before .before .before .before .write-all .kept .1 .1 .1 .1 .1 .1 .1 .1 .0
 
 same-length-3 : tie.Need-same-length-3
-same-length-3 c = c .before .before .before .before .before .before .before .before .before .before .write-all .kept .1 .1 .1 .1 .1 .1 .1 .1 .1 .1 .0
-
-same-length-4 : tie.Need-same-length-4
-same-length-4 c = c .before .before .before .before .before .before .before .before .before .before .write-all .kept .1 .1 .1 .1 .1 .1 .1 .1 .1 .1 .1 .0
-
-same-length-5 : tie.Need-same-length-5
-same-length-5 c = c .before .before .before .before .before .before .before .before .before .before .write-all .kept .1 .1 .1 .1 .1 .1 .1 .1 .1 .1 .1 .1 .0
+same-length-3 c = c .before .before .before .before .before .before .write-all .kept .1 .1 .1 .1 .1 .1 .1 .1 .1 .0
 
 returns : tie.Need-returns
-returns c = let a = c .before .before .before .before .before .before .before .before .before .before .before .before .before .before .before .before .before .before .before .before .before .before .before .before .before .before .before .before .before .args in let p = c .before .before .before .before .before .before .before .before .before .before .before .before .before .before .before .before .before .before .before .before .before .before .before .before .before .before .before .before .before .pre in let t = c .before .before .before .before .before .before .before .before .before .before .before .before .before .before .before .before .before .before .before .start-table in
-    has-written (a .s .now) (a .l) (p .0) (a .out .now) (a .k) (p .2) (t .result) _ (t .ensures .0) (t .ensures .1) (c .before .before .before .before .before .before .before .before .before .before .before .before .before .before .before .before .if1 .taken) _ (c .before .before .before .before .before .before .before .before .before .before .write-all .ensures)
+returns c = let a = c .before .before .before .before .before .before .before .before .before .before .before .before .before .before .before .before .before .before .before .before .before .args in let p = c .before .before .before .before .before .before .before .before .before .before .before .before .before .before .before .before .before .before .before .before .before .pre in let t = c .before .before .before .before .before .before .before .before .before .before .before .before .before .start-table in
+    has-written (a .s .now) (a .l) (p .0 .0) (a .first) (a .end) (a .out .now) (a .k) (p .0 .3) (t .result) _ (t .ensures .0) (t .ensures .1) (c .before .before .before .before .before .before .before .before .before .before .if1 .taken) _ (c .before .before .before .before .before .before .write-all .ensures)
 
-same-length-6 : tie.Need-same-length-6
-same-length-6 c = c .before .before .before .start-table .kept .0
+same-length-4 : tie.Need-same-length-4
+same-length-4 c = c .before .before .before .start-table .kept .0
 
 returns-2 : tie.Need-returns-2
-returns-2 c = let a = c .before .before .before .before .before .before .before .before .before .before .before .before .before .args in let p = c .before .before .before .before .before .before .before .before .before .before .before .before .before .pre in let t = c .before .before .before .start-table in
-    has-not (a .s .now) (a .l) (p .0) (a .out .now) (a .k) (p .2) (t .result) _ (t .ensures .0) (t .ensures .1) (c .if1 .left)
+returns-2 c = let a = c .before .before .before .before .before .before .before .before .before .before .before .args in let p = c .before .before .before .before .before .before .before .before .before .before .before .pre in let t = c .before .before .before .start-table in
+    has-not (a .s .now) (a .l) (p .0 .0) (a .first) (a .end) (a .out .now) (a .k) (p .0 .3) (t .result) _ (t .ensures .0) (t .ensures .1) (c .if1 .left)
 
 pub write-table-spec : {M : Type 1} → statement M
 write-table-spec =
@@ -73,17 +67,15 @@ write-table-spec =
     add-size
     mul-size-2
     add-size-2
-    cast-t22
-    cast-t23
+    cast-t19
+    cast-t20
     start-table-requires
     write-all-requires
-    cast-t38
-    cast-t39
+    cast-t31
+    cast-t32
     same-length
     same-length-2
     same-length-3
-    same-length-4
-    same-length-5
     returns
-    same-length-6
+    same-length-4
     returns-2)
