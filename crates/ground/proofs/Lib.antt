@@ -5,3 +5,4 @@ pub mod SearchLaws
 pub mod SequenceLaws
 pub mod ListLaws
 pub mod PartitionLaws
+pub mod FromLaws

@@ -4,3 +4,4 @@ pub mod Judgement
 pub mod Search
 pub mod Sequence
 pub mod Partition
+pub mod From
