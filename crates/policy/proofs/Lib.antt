@@ -1,2 +1,3 @@
 pub mod PolicyLaws
 pub mod QuestionOutcome
+pub mod NextUseLaws

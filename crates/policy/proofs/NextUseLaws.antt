@@ -1,0 +1,42 @@
+-- When a permission can next be used.
+--     next-at, next-none                           which minute is given, and when none is
+--     bytes-refused, numbers-refused, next-given   the question's outcome, by the stage at which it ends
+-- Assumes nothing.
+use Prim.Native.Nat.{ℕ, _≤_, _<_}
+use mathlib.Core.Path.{_≡_}
+use mathlib.Core.Logic.{_↔_}
+use mathlib.Core.Bool.{true, false}
+use mathlib.Core.Option.{none, some}
+use Rattle.ground.specs.Outcome.{refused, given}
+use Rattle.ground.proofs.FromLaws.{from-at, from-none}
+use Rattle.minutes.specs.Minutes.{E}
+use Rattle.policy.specs.Policy.{Policy, isYes, argumentsJudged}
+use Rattle.policy.specs.NextUse.{nextUse, nextUseQuestion}
+use Rattle.policy.proofs.QuestionOutcome.{bytes-stop, numbers-stop, answered}
+
+module _ (π : Policy) (u p m : ℕ) where
+  -- a minute that is given is not before m, the answer is yes there, and no earlier minute will do
+  pub next-at : (t : ℕ) → (nextUse π u p m ≡ some t)
+      ↔ ((m ≤ t) × (t < E) × (isYes (π .answer u p t) ≡ true) × ((v : ℕ) → m ≤ v → v < t → isYes (π .answer u p v) ≡ false))
+  unfolding nextUse
+  next-at t = from-at m E (λ v. isYes (π .answer u p v)) t
+
+  -- none is given exactly when there is no such minute
+  pub next-none : (nextUse π u p m ≡ none) ↔ ((v : ℕ) → m ≤ v → v < E → isYes (π .answer u p v) ≡ false)
+  unfolding nextUse
+  next-none = from-none m E (λ v. isYes (π .answer u p v))
+
+module _ (j : ℕ) (π : Policy) (u p m n : ℕ) where
+  -- the bytes are refused
+  pub bytes-refused : j ≡ n → (j ≡ 0 → ⊥) → refused n ≡ nextUseQuestion j π u p m
+  unfolding nextUseQuestion
+  bytes-refused e h = bytes-stop _ _ _ _ e h
+
+  -- a number of the question is refused, or none is
+  pub numbers-refused : j ≡ 0 → n ≡ argumentsJudged (π .users) (π .permissions) u p m → (n ≡ 0 → ⊥) → refused n ≡ nextUseQuestion j π u p m
+  unfolding nextUseQuestion
+  numbers-refused z e h = numbers-stop _ _ _ _ z e h
+
+  pub next-given : j ≡ 0 → n ≡ argumentsJudged (π .users) (π .permissions) u p m → n ≡ 0 → given (nextUse π u p m) ≡ nextUseQuestion j π u p m
+  unfolding nextUseQuestion
+  next-given z e h = answered _ _ _ _ z e h
