@@ -30,6 +30,7 @@ use Rattle.table.specs.declared.Counts.{Counts}
 use Rattle.table.proofs.HeaderLaws.{counts-are}
 use Rattle.table.proofs.FineLaws.{TableFine, table-fine}
 use Rattle.table_answers.proofs.SourceLaws.{sources-up}
+use Rattle.table_answers.proofs.GrantLaws.{grants-parts, grants-of}
 
 -- row i begins here
 abbrev pub rowPlace : List ℕ → ℕ → ℕ
@@ -55,12 +56,12 @@ passes s u p t r d =
 
 module _ (s : List ℕ) (u p t k : ℕ) where
   pub grant-parts : grants s u p t k ≡ true → (covering s t k ≡ true) × (has (owned s k .users) u ≡ true) × (has (owned s k .permissions) p ≡ true)
-  unfolding rowGrants rowOf
-  grant-parts h = and-three (covering s t k) (has (owned s k .users) u) (has (owned s k .permissions) p) h
+  unfolding rowOf
+  grant-parts h = grants-parts s u p t (rowPlace s k) h
 
   pub grant-of : covering s t k ≡ true → has (owned s k .users) u ≡ true → has (owned s k .permissions) p ≡ true → grants s u p t k ≡ true
-  unfolding rowGrants rowOf
-  grant-of a b c = and-both (covering s t k && has (owned s k .users) u) (has (owned s k .permissions) p) (and-both (covering s t k) (has (owned s k .users) u) a b) c
+  unfolding rowOf
+  grant-of a b c = grants-of s u p t (rowPlace s k) a b c
 
 module _ (s : List ℕ) where
   entry-is : (d : ℕ) → d < derivedOf s → entryAt (tableOf s) d ≡ entryOf s d

@@ -1,14 +1,28 @@
 -- One row at a minute: whether its window covers the minute, whether its entry grants, and which users it has.
+--     grants-parts, grants-of     a row that grants covers the minute, and its entry has both bits; and back
 -- Assumes nothing.
 use Prim.Native.Nat.{ℕ, _+_, _*_, _%_}
 use mathlib.Core.Path.{_≡_, refl, sym, _∙_, ap}
 use mathlib.Core.List.{List}
 use mathlib.Core.Bool.{Bool, true, false, _&&_}
+use Rattle.ground.proofs.BoolLaws.{and-three, and-all}
 use Rattle.endian.specs.Numbers.{u32At, u64At}
 use Rattle.bitset.specs.Sets.{has}
 use Rattle.minutes.specs.Minutes.{Window, within, inPhase, covers}
 use Rattle.table.specs.TableBytes.{cycleOf, rowAtByte, entryOf}
 use Rattle.table_answers.specs.Grants.{rowGrants, rowUsers}
+
+-- what it takes that the row at a position grants
+module _ (s : List ℕ) (u p t at : ℕ) where
+  pub grants-parts : rowGrants s u p t at ≡ true
+      → (covers (cycleOf s) (rowAtByte s at .window) t ≡ true) × (has (entryOf s (u32At s at) .users) u ≡ true) × (has (entryOf s (u32At s at) .permissions) p ≡ true)
+  unfolding rowGrants
+  grants-parts h = and-three _ _ _ h
+
+  pub grants-of : covers (cycleOf s) (rowAtByte s at .window) t ≡ true → has (entryOf s (u32At s at) .users) u ≡ true
+      → has (entryOf s (u32At s at) .permissions) p ≡ true → rowGrants s u p t at ≡ true
+  unfolding rowGrants
+  grants-of a b c = and-all _ _ _ a b c
 
 -- the row at a position has window w, and d is whether minute t, of phase x, lies between its dates
 module _ (s : List ℕ) (at t x : ℕ) (w : Window) (d : Bool) (ew : w ≡ rowAtByte s at .window) (ex : x ≡ t % cycleOf s)

@@ -29,7 +29,7 @@ fn row_covers(s: &[u8], at: usize, t: u32, x: u32) -> bool
 }
 
 // Where the entry of the row at `at` begins.
-fn entry_place(s: &[u8], at: usize) -> usize
+pub fn entry_place(s: &[u8], at: usize) -> usize
     requires { ⌜ at + 16 ≤ length (now s) ⌝ }
     ensures { λ r. ⌜ r ≡ 16 + 17 * u32At (now (s .entry)) at ⌝ }
 {
