@@ -1,41 +1,44 @@
 -- The pass over the rows of an accepted table, which finds the first minute from m on at which a role below `below` grants.
---     row-ready                       where rows and their entries lie, and what their windows are
---     pass-none, pass-more, pass-same no row yet, one more that gives an earlier minute, and one that does not
---     pass-stop, pass-now, pass-all   the pass may end: at a row of a role from `below` on, at minute m, and after the last row
---     next-some, next-never           what the pass found is the next use
+--     row-ready                                    where rows and their entries lie, and what their windows are
+--     pass-none, pass-most                         no row yet; the minute that the first rows give is E at most
+--     pass-more, pass-same, pass-other, pass-over  one row more, by what it gives, and rows that give nothing
+--     pass-met, pass-idle                          rows are passed: none is before m, and none of a block of one role
+--     pass-all, pass-stop, pass-now                the pass ends: after the last row, at a role that does not count, at minute m
+--     next-some, next-never                        what it found is the next use
 -- Assumes nothing.
-use Prim.Native.Nat.{ℕ, _+_, _*_, _≤_, _<_}
+use Prim.Native.Nat.{ℕ, _+_, _-_, _*_, _≤_, _<_}
 use mathlib.Core.Path.{_≡_, refl, sym, _∙_, ap}
-use mathlib.Core.Logic.{⊎-elim}
-use mathlib.Core.Bool.{Bool, true, false, _&&_}
+use mathlib.Core.Logic.{inl, inr, ⊎-elim}
+use mathlib.Core.Bool.{Bool, true, false, not, _||_}
 use mathlib.Core.Option.{none, some}
 use mathlib.Core.List.{List}
-use native.Mathlib.Nat.{le-refl}
+use native.Mathlib.Nat.{le-refl, eq-or-lt-of-le}
 use native.Mathlib.Omega.{arith}
-use borrow.Author.Tests.{ltb-true, lt-ltb}
-use lib.Dec.{ltb}
-use Rattle.ground.specs.From.{firstFrom}
+use borrow.Author.Tests.{ltb-true, leb-true, eqb-true, lt-ltb, not-false}
+use lib.Dec.{leb, eqb}
 use Rattle.ground.specs.Outcome.{given}
 use Rattle.ground.specs.Search.{anyBelow}
-use Rattle.ground.proofs.BoolLaws.{and-yes, and-both, and-left, and-right, or-left, not-yes, clash, eq-ext, lt-or-le}
-use Rattle.ground.proofs.SearchLaws.{any-out, any-stop, any-more, any-turn}
+use Rattle.ground.proofs.BoolLaws.{and-yes, and-both, or-yes, not-yes, clash, eq-ext, lt-or-le}
+use Rattle.ground.proofs.SearchLaws.{any-out, any-no, any-stop, any-more, any-none-of}
 use Rattle.ground.proofs.FromLaws.{IsFirst, first-is, is-first, first-same, first-some, first-none}
-use Rattle.endian.specs.Numbers.{u8At, u32At}
 use Rattle.minutes.specs.Minutes.{E}
+use Rattle.minutes.proofs.WindowLaws.{In, covers-in}
 use Rattle.policy.specs.Policy.{isYes}
 use Rattle.policy.specs.NextUse.{nextUse}
 use Rattle.policy.proofs.PolicyLaws.{yes-is}
 use Rattle.table.specs.Table.{through, answer, policyOf}
-use Rattle.table.specs.TableBytes.{derivedOf, rowsOf, entryOf, rowOf, tableOf}
+use Rattle.table.specs.TableBytes.{cycleOf, derivedOf, rowsOf, rowOf, tableOf}
 use Rattle.table.specs.TableRefusals.{sourceOf}
 use Rattle.table.specs.Inside.{Opened}
 use Rattle.table.specs.declared.Counts.{Counts}
 use Rattle.table.proofs.HeaderLaws.{counts-are}
 use Rattle.table.proofs.FineLaws.{TableFine, table-fine}
+use Rattle.table.proofs.RowsLaws.{RowAfter, rows-after}
 use Rattle.table_answers.specs.Grants.{rowGrants}
 use Rattle.table_answers.proofs.SourceLaws.{sources-up}
+use Rattle.table_answers.proofs.GrantLaws.{grants-parts}
 use Rattle.table_answers.proofs.AnswerLaws.{row-inside, grant-through, through-grant}
-use Rattle.table_times.specs.FirstUse.{RowReady, rowFirst, firstUse}
+use Rattle.table_times.specs.FirstUse.{RowReady, roleAtByte, rowFirst, grantsBelow, firstOfRows, idle, firstUse}
 
 pub row-ready : (s : List ℕ) (n : Counts) → Opened s n → (i : ℕ) → i < n .rows → RowReady s (16 + 17 * n .derived + 16 * i)
 unfolding rowOf
@@ -52,133 +55,180 @@ row-ready s n o i l =
       cycle-most = f .header .cycle-most;
     }
 
--- row i, of those that begin at `first`: its source role, and whether it is below `below` and the row grants at t
-abbrev roleAt : List ℕ → ℕ → ℕ → ℕ
-roleAt s first i = u8At s (16 + 17 * u32At s (first + 16 * i))
+module _ (s : List ℕ) (u p below first t i : ℕ) where
+  counts-in : roleAtByte s (first + 16 * i) < below → rowGrants s u p t (first + 16 * i) ≡ true → grantsBelow s u p below first t i ≡ true
+  unfolding grantsBelow
+  counts-in r g = and-both _ _ (lt-ltb _ _ r) g
 
-abbrev counts : List ℕ → ℕ → ℕ → ℕ → ℕ → ℕ → ℕ → Bool
-counts s u p below first t i = ltb (roleAt s first i) below && rowGrants s u p t (first + 16 * i)
+  counts-out : grantsBelow s u p below first t i ≡ true → (roleAtByte s (first + 16 * i) < below) × (rowGrants s u p t (first + 16 * i) ≡ true)
+  unfolding grantsBelow
+  counts-out h = let g = and-yes _ _ h in (ltb-true _ _ (g .0), g .1)
 
--- the first minute from m on at which one of the first k rows counts, or E
-unfoldable pub passed : List ℕ → ℕ → ℕ → ℕ → ℕ → ℕ → ℕ → ℕ
-passed s u p m below first k = firstFrom m E (λ t. anyBelow k (counts s u p below first t))
-
+-- ---- the first k rows gave `best`
 module _ (s : List ℕ) (u p m below first : ℕ) where
-  pub pass-none : E ≡ passed s u p m below first 0
-  unfolding passed anyBelow
+  pub pass-none : E ≡ firstOfRows s u p m below first 0
+  unfolding firstOfRows anyBelow
   pass-none =
       is-first m E (λ t. false) E
       (record { most = le-refl E; from = λ l. absurd (omega arith); passes = λ l. absurd (omega arith); before = λ v l b. refl })
 
-  pub pass-most : (k best : ℕ) → best ≡ passed s u p m below first k → best ≤ E
-  unfolding passed
-  pass-most k best e = first-is m E _ best e .most
+  module _ (k best : ℕ) (eb : best ≡ firstOfRows s u p m below first k) where
+    so-far : IsFirst m E (λ t. anyBelow k (grantsBelow s u p below first t)) best
+    unfolding firstOfRows
+    so-far = first-is m E _ best eb
 
-  -- the first k rows gave `best`, and row k gives x
-  module _ (k best x : ℕ) (eb : best ≡ passed s u p m below first k) (ex : x ≡ rowFirst s u p m best (first + 16 * k)) where
-    before : IsFirst m E (λ t. anyBelow k (counts s u p below first t)) best
-    unfolding passed
-    before = first-is m E _ best eb
+    pub pass-most : best ≤ E
+    pass-most = so-far .most
 
-    here : IsFirst m best (λ t. rowGrants s u p t (first + 16 * k)) x
-    unfolding rowFirst
-    here = first-is m best _ x ex
-
-    none-yet : (v : ℕ) → m ≤ v → v < x → anyBelow (k + 1) (counts s u p below first v) ≡ false
-    none-yet v l i =
-        any-more (counts s u p below first v) k (before .before v l (omega (arith, here .most)))
-        (not-yes _ (λ g. clash _ (and-right (ltb (roleAt s first k) below) _ g) (here .before v l i)))
-
-    pub pass-more : x < best → roleAt s first k < below → x ≡ passed s u p m below first (k + 1)
-    unfolding passed
-    pass-more l r =
-        is-first m E (λ t. anyBelow (k + 1) (counts s u p below first t)) x
+    -- rows to j give nothing before it
+    pub pass-over : (j : ℕ) → k ≤ j
+        → ((i : ℕ) → k ≤ i → i < j → (v : ℕ) → m ≤ v → v < best → grantsBelow s u p below first v i ≡ true → ⊥)
+        → best ≡ firstOfRows s u p m below first j
+    unfolding firstOfRows
+    pass-over j l over =
+        is-first m E (λ t. anyBelow j (grantsBelow s u p below first t)) best
         (record {
-          most = omega (arith, before .most);
-          from = λ i. here .from l;
-          passes = λ i. any-stop _ (k + 1) k (omega arith) (and-both _ _ (lt-ltb _ _ r) (here .passes l));
-          before = none-yet;
+          most = so-far .most;
+          from = so-far .from;
+          passes = λ h. let i = any-out _ _ (so-far .passes h) in any-stop _ _ (i .0) (omega (arith, i .1)) (i .2);
+          before = λ v h b. any-none-of _ _ (λ i q. not-yes _ (λ g.
+              ⊎-elim
+              (λ (a : i < k). clash _ g (any-no _ _ (so-far .before v h b) i a))
+              (λ (a : k ≤ i). over i a q v h b g)
+              (lt-or-le i k)));
         })
 
-    pub pass-same : best ≤ x → best ≡ passed s u p m below first (k + 1)
-    unfolding passed
-    pass-same l =
-        is-first m E (λ t. anyBelow (k + 1) (counts s u p below first t)) best
-        (record {
-          most = before .most;
-          from = before .from;
-          passes = λ i. any-turn (counts s u p below first best) k ∙ or-left _ _ (before .passes i);
-          before = λ v h i. none-yet v h (omega arith);
-        })
+    -- it is m, and no minute is before m
+    pub pass-met : (j : ℕ) → k ≤ j → best ≡ m → best ≡ firstOfRows s u p m below first j
+    pass-met j l e = pass-over j l (λ i a b v h q. absurd (omega arith))
 
-    -- x is m: the row grants at m
-    pub granted-now : x < best → x ≡ m → (m < E) × (rowGrants s u p m (first + 16 * k) ≡ true)
-    granted-now l e = (omega (arith, before .most), rw e at (here .passes l))
+    -- row k gives x
+    module _ (x : ℕ) (ex : x ≡ rowFirst s u p m best (first + 16 * k)) where
+      here : IsFirst m best (λ t. rowGrants s u p t (first + 16 * k)) x
+      unfolding rowFirst
+      here = first-is m best _ x ex
 
+      is-row : (i : ℕ) → k ≤ i → i < k + 1 → i ≡ k
+      is-row i a b = omega arith
+
+      -- which is not earlier, or of a role that does not count
+      pub pass-same : best ≤ x → best ≡ firstOfRows s u p m below first (k + 1)
+      pass-same l =
+          pass-over (k + 1) (omega arith)
+          (λ i a b v h q g.
+          let z = is-row i a b in
+          clash _ (rw z at (counts-out s u p below first v i g .1)) (here .before v h (omega arith)))
+
+      pub pass-other : below ≤ roleAtByte s (first + 16 * k) → best ≡ firstOfRows s u p m below first (k + 1)
+      pass-other r =
+          pass-over (k + 1) (omega arith)
+          (λ i a b v h q g.
+          let z = is-row i a b in
+          let y : roleAtByte s (first + 16 * k) < below = rw z at (counts-out s u p below first v i g .0) in omega arith)
+
+      -- which is earlier
+      pub pass-more : x < best → roleAtByte s (first + 16 * k) < below → x ≡ firstOfRows s u p m below first (k + 1)
+      unfolding firstOfRows
+      pass-more l r =
+          is-first m E (λ t. anyBelow (k + 1) (grantsBelow s u p below first t)) x
+          (record {
+            most = omega (arith, so-far .most);
+            from = λ i. here .from l;
+            passes = λ i. any-stop _ (k + 1) k (omega arith) (counts-in s u p below first x k r (here .passes l));
+            before = λ v h i.
+                any-more _ k (so-far .before v h (omega arith))
+                (not-yes _ (λ g. clash _ (counts-out s u p below first v k g .1) (here .before v h i)));
+          })
+
+-- ---- the rows of an accepted table
 module _ (s : List ℕ) (f : TableFine s) (u p below : ℕ) where
   -- a role below `below` answers exactly when a row of one grants
-  by-rows : (t : ℕ) → anyBelow below (through (tableOf s) u p t) ≡ anyBelow (rowsOf s) (counts s u p below (16 + 17 * derivedOf s) t)
-  unfolding entryOf rowOf
+  by-rows : (t : ℕ) → anyBelow below (through (tableOf s) u p t) ≡ anyBelow (rowsOf s) (grantsBelow s u p below (16 + 17 * derivedOf s) t)
+  unfolding rowOf
   by-rows t =
       eq-ext _ _
       (λ h.
       let r = any-out _ _ h in
       let k = through-grant s f u p t (r .0) (r .2) in
-      let l : roleAt s (16 + 17 * derivedOf s) (k .row) < below = omega (arith, k .source, r .1) in
-      any-stop _ _ (k .row) (k .below) (and-both _ _ (lt-ltb _ _ l) (k .granted)))
+      let l : sourceOf s (k .row) < below = omega (arith, k .source, r .1) in
+      any-stop _ _ (k .row) (k .below) (counts-in s u p below (16 + 17 * derivedOf s) t (k .row) l (k .granted)))
       (λ h.
       let i = any-out _ _ h in
-      let g = and-yes (ltb (roleAt s (16 + 17 * derivedOf s) (i .0)) below) _ (i .2) in
-      any-stop _ _ _ (ltb-true _ _ (g .0)) (grant-through s f u p t (i .0) (i .1) (g .1)))
+      let g = counts-out s u p below (16 + 17 * derivedOf s) t (i .0) (i .2) in
+      any-stop _ _ (sourceOf s (i .0)) (g .0) (grant-through s f u p t (i .0) (i .1) (g .1)))
 
-  -- rows from k on do not count
-  cut : (m k best : ℕ) → k ≤ rowsOf s → ((t i : ℕ) → k ≤ i → i < rowsOf s → counts s u p below (16 + 17 * derivedOf s) t i ≡ true → ⊥)
-      → best ≡ passed s u p m below (16 + 17 * derivedOf s) k → best ≡ firstUse (tableOf s) u p m below
-  unfolding passed firstUse
-  cut m k best l over e = e ∙ first-same m E _ _ (λ t b. eq-ext _ _ (out t) (back t) ∙ sym (by-rows t))
+  all-rows : (m best : ℕ) → best ≡ firstOfRows s u p m below (16 + 17 * derivedOf s) (rowsOf s) → best ≡ firstUse (tableOf s) u p m below
+  unfolding firstOfRows firstUse
+  all-rows m best e = e ∙ first-same m E _ _ (λ t b. sym (by-rows t))
+
+-- rows go by source role, and the rows of one by their dates
+module _ (s : List ℕ) (f : TableFine s) where
+  dates-up : (i j : ℕ) → i ≤ j → j < rowsOf s → sourceOf s i ≡ sourceOf s j
+      → (rowOf s i .window .begin ≤ rowOf s j .window .begin) × (rowOf s i .window .end ≤ rowOf s j .window .end)
+  dates-up i j l b e = ⊎-elim (λ (q : i ≡ j). rw q (le-refl _, le-refl _)) (λ (q : i < j). go q (rows-after s f i j q b)) (eq-or-lt-of-le l)
     where
-      out : (t : ℕ) → anyBelow k (counts s u p below (16 + 17 * derivedOf s) t) ≡ true → anyBelow (rowsOf s) (counts s u p below (16 + 17 * derivedOf s) t) ≡ true
-      out t h = let i = any-out _ _ h in any-stop _ _ (i .0) (omega (arith, i .1)) (i .2)
+      go : i < j → RowAfter s i j → (rowOf s i .window .begin ≤ rowOf s j .window .begin) × (rowOf s i .window .end ≤ rowOf s j .window .end)
+      go q (inl h) = absurd (omega arith)
+      go q (inr (inl h)) = (omega arith, omega arith)
+      go q (inr (inr h)) =
+          let x = f .rows i (omega arith) .alone .ordered in
+          let y = f .rows j b .alone .ordered in
+          (omega arith, omega arith)
 
-      back : (t : ℕ) → anyBelow (rowsOf s) (counts s u p below (16 + 17 * derivedOf s) t) ≡ true → anyBelow k (counts s u p below (16 + 17 * derivedOf s) t) ≡ true
-      back t h =
-          let i = any-out _ _ h in
-          ⊎-elim (λ (a : i .0 < k). any-stop _ _ (i .0) a (i .2)) (λ (a : k ≤ i .0). absurd (over t (i .0) a (i .1) (i .2))) (lt-or-le (i .0) k)
+  idle-rows : (u p m best k last : ℕ) → last < rowsOf s
+      → idle s m best (16 + 17 * derivedOf s + 16 * k) (16 + 17 * derivedOf s + 16 * last) ≡ true
+      → (i : ℕ) → k ≤ i → i ≤ last → (v : ℕ) → m ≤ v → v < best → rowGrants s u p v (16 + 17 * derivedOf s + 16 * i) ≡ true → ⊥
+  unfolding idle rowOf
+  idle-rows u p m best k last l h i a b v q r g =
+      let y = and-yes (leb (rowOf s last .window .end) m || leb best (rowOf s k .window .begin)) (eqb (sourceOf s k) (sourceOf s last)) h in
+      let e : sourceOf s k ≡ sourceOf s last = eqb-true _ _ (y .1) in
+      let x : sourceOf s k ≤ sourceOf s i = sources-up s f k i a (omega arith) in
+      let z : sourceOf s i ≤ sourceOf s last = sources-up s f i last b l in
+      let d = dates-up k i a (omega arith) (omega arith) in
+      let w = dates-up i last b l (omega arith) in
+      let c : In (cycleOf s) (rowOf s i .window) v = covers-in (grants-parts s u p v (16 + 17 * derivedOf s + 16 * i) g .0) in
+      ⊎-elim
+      (λ (o : leb (rowOf s last .window .end) m ≡ true). omega (arith, leb-true (rowOf s last .window .end) m o))
+      (λ (o : leb best (rowOf s k .window .begin) ≡ true). omega (arith, leb-true best (rowOf s k .window .begin) o))
+      (or-yes _ _ (y .0))
 
 -- the same of the counts that were read
-module _ (s : List ℕ) (n : Counts) (o : Opened s n) (u p m below k : ℕ) where
-  module _ (best : ℕ) (eb : best ≡ passed s u p m below (16 + 17 * n .derived) k) where
-    pub pass-all : k ≡ n .rows → best ≡ firstUse (tableOf s) u p m below
-    pass-all e =
-        let c = counts-are s n (o .counts) in
-        cut s (table-fine s (o .clear)) u p below m k best (omega arith) (λ t i l b g. omega arith) (rw (c .derived) at eb)
-
-    -- row k and all after it are of roles from `below` on
-    pub pass-stop : k < n .rows → below ≤ roleAt s (16 + 17 * n .derived) k → best ≡ firstUse (tableOf s) u p m below
-    unfolding entryOf rowOf
-    pass-stop l r =
-        let c = counts-are s n (o .counts) in
-        let f = table-fine s (o .clear) in
-        let q : below ≤ sourceOf s k = rw (c .derived) at r in
-        cut s f u p below m k best (omega arith)
-        (λ t i a b g. let h = ltb-true (sourceOf s i) below (and-left _ (rowGrants s u p t (16 + 17 * derivedOf s + 16 * i)) g) in omega (arith, sources-up s f k i a b))
-        (rw (c .derived) at eb)
-
-  -- row k grants at m, and no minute is before m
-  pub pass-now : k < n .rows → roleAt s (16 + 17 * n .derived) k < below → m < E → rowGrants s u p m (16 + 17 * n .derived + 16 * k) ≡ true
-      → m ≡ firstUse (tableOf s) u p m below
-  unfolding firstUse entryOf rowOf
-  pass-now l r h g =
+module _ (s : List ℕ) (n : Counts) (o : Opened s n) (u p m below k best : ℕ)
+    (eb : best ≡ firstOfRows s u p m below (16 + 17 * n .derived) k) where
+  pub pass-all : k ≡ n .rows → best ≡ firstUse (tableOf s) u p m below
+  pass-all e =
       let c = counts-are s n (o .counts) in
-      is-first m E (λ t. anyBelow below (through (tableOf s) u p t)) m
-      (record {
-        most = omega arith;
-        from = λ i. le-refl m;
-        passes = λ i.
-            by-rows s (table-fine s (o .clear)) u p below m
-            ∙ any-stop _ _ k (omega (arith, c .rows)) (rw (c .derived) at (and-both _ _ (lt-ltb _ _ r) g));
-        before = λ v i b. absurd (omega arith);
-      })
+      all-rows s (table-fine s (o .clear)) u p below m best (rw (e, c .derived, c .rows) at eb)
+
+  -- row k and all after it are of roles from `below` on
+  pub pass-stop : k < n .rows → below ≤ roleAtByte s (16 + 17 * n .derived + 16 * k) → best ≡ firstUse (tableOf s) u p m below
+  unfolding rowOf
+  pass-stop l r =
+      let c = counts-are s n (o .counts) in
+      let f = table-fine s (o .clear) in
+      let q : below ≤ sourceOf s k = rw (c .derived) at r in
+      all-rows s f u p below m best
+      (pass-over s u p m below (16 + 17 * derivedOf s) k best (rw (c .derived) at eb) (rowsOf s) (omega arith)
+      (λ i a b v h z g.
+      let y : sourceOf s i < below = counts-out s u p below (16 + 17 * derivedOf s) v i g .0 in omega (arith, sources-up s f k i a b)))
+
+  -- best is m
+  pub pass-now : k ≤ n .rows → best ≡ m → best ≡ firstUse (tableOf s) u p m below
+  pass-now l e =
+      let c = counts-are s n (o .counts) in
+      all-rows s (table-fine s (o .clear)) u p below m best
+      (pass-met s u p m below (16 + 17 * derivedOf s) k best (rw (c .derived) at eb) (rowsOf s) (omega arith) e)
+
+  -- the rows from k to before j are idle
+  pub pass-idle : (j : ℕ) → k < j → j ≤ n .rows → (d : Bool)
+      → d ≡ idle s m best (16 + 17 * n .derived + 16 * k) (16 + 17 * n .derived + 16 * (j - 1)) → not d ≡ false
+      → best ≡ firstOfRows s u p m below (16 + 17 * n .derived) j
+  pass-idle j l b d e h =
+      let c = counts-are s n (o .counts) in
+      pass-over s u p m below (16 + 17 * n .derived) k best eb j (omega arith)
+      (λ i a q v y z g.
+      idle-rows s (table-fine s (o .clear)) u p m best k (j - 1) (omega arith) (rw (c .derived) at (sym e ∙ not-false d h)) i a (omega arith) v y z
+      (rw (c .derived) at (counts-out s u p below (16 + 17 * n .derived) v i g .1)))
 
 -- the first use through any role is the next use
 module _ (s : List ℕ) (n : Counts) (o : Opened s n) (u p m t : ℕ) (e : t ≡ firstUse (tableOf s) u p m (n .roles)) where

@@ -1,13 +1,17 @@
 -- The first minute from m on and before `best` at which the row at a position grants, by the tests of the code.
 --     begins-late, is-over, no-user, no-permission     it does not grant before `best`
 --     too-late, earlier                                it may: by the first minute that its window covers
+-- and whether the rows between two positions are idle, not-idle and idle-one.
 -- Assumes nothing.
 use Prim.Native.Nat.{ℕ, _+_, _*_, _≤_, _<_}
-use mathlib.Core.Path.{_≡_, sym, _∙_}
-use mathlib.Core.Bool.{Bool, true, false}
+use mathlib.Core.Path.{_≡_, refl, sym, _∙_}
+use mathlib.Core.Bool.{Bool, true, false, or-true}
+use mathlib.Core.Logic.{_⊎_, inl, inr}
 use mathlib.Core.List.{List}
 use native.Mathlib.Nat.{le-refl}
 use native.Mathlib.Omega.{arith}
+use borrow.Author.Tests.{le-leb, lt-leb}
+use lib.Dec.{eqb}
 use Rattle.ground.specs.From.{firstFrom}
 use Rattle.ground.proofs.BoolLaws.{not-yes, clash}
 use Rattle.ground.proofs.FromLaws.{first-is, is-first}
@@ -18,7 +22,7 @@ use Rattle.minutes.proofs.WindowLaws.{In, covers-in}
 use Rattle.table.specs.TableBytes.{cycleOf, rowAtByte, entryOf}
 use Rattle.table_answers.specs.Grants.{rowGrants}
 use Rattle.table_answers.proofs.GrantLaws.{grants-parts, grants-of}
-use Rattle.table_times.specs.FirstUse.{rowFirst}
+use Rattle.table_times.specs.FirstUse.{rowFirst, roleAtByte, idle}
 
 module _ (s : List ℕ) (u p m best at : ℕ) where
   -- no minute before `best` will do
@@ -79,3 +83,15 @@ module _ (s : List ℕ) (u p m best at : ℕ) where
         too-late h =
             let f = first-is m E (covers (cycleOf s) (rowAtByte s at .window)) z ez in
             kept (λ v k i g. clash _ (grants-parts s u p v at g .0) (f .before v k (omega arith)))
+
+module _ (s : List ℕ) (m best at last : ℕ) where
+  pub not-idle : m < u32At s (last + 8) → u32At s (at + 4) < best → false ≡ idle s m best at last
+  unfolding idle
+  not-idle h k = rw (lt-leb (u32At s (last + 8)) m h, lt-leb best (u32At s (at + 4)) k) refl
+
+  -- by their roles a and b
+  pub idle-one : (a b : ℕ) → a ≡ roleAtByte s at → b ≡ roleAtByte s last → (u32At s (last + 8) ≤ m) ⊎ (best ≤ u32At s (at + 4))
+      → eqb a b ≡ idle s m best at last
+  unfolding idle
+  idle-one a b ea eb (inl h) = rw (ea, eb, le-leb (u32At s (last + 8)) m h) refl
+  idle-one a b ea eb (inr h) = rw (ea, eb, le-leb best (u32At s (at + 4)) h, or-true) refl

@@ -1,11 +1,14 @@
 -- What the steps of the pass over the rows promise each other, which no reader has to believe.
-use Prim.Native.Nat.{ℕ, _+_, _≤_, _<_}
+use Prim.Native.Nat.{ℕ, _+_, _*_, _≤_, _<_}
+use mathlib.Core.Bool.{Bool, _&&_, _||_}
 use mathlib.Core.List.{List}
+use lib.Dec.{leb, ltb, eqb}
 use Rattle.ground.specs.From.{firstFrom}
 use Rattle.ground.specs.Search.{anyBelow}
+use Rattle.endian.specs.Numbers.{u32At}
 use Rattle.minutes.specs.Minutes.{E}
 use Rattle.table.specs.Table.{Table, through}
-use Rattle.table.specs.TableBytes.{cycleOf, rowAtByte}
+use Rattle.table.specs.TableBytes.{cycleOf, entryOf, rowAtByte}
 use Rattle.table_answers.specs.Grants.{RowInside, rowGrants}
 
 -- the row at a position and its entry lie inside the bytes, and its window is one that the reader admits
@@ -17,9 +20,26 @@ pub record RowReady (s : List ℕ) (at : ℕ) : Type 0 where
   pub in-cycle : rowAtByte s at .window .offset + rowAtByte s at .window .length ≤ cycleOf s
   pub cycle-most : cycleOf s ≤ 40320
 
+-- the source role of the row at a position
+abbrev pub roleAtByte : List ℕ → ℕ → ℕ
+roleAtByte s at = entryOf s (u32At s at) .source
+
 -- the first minute from m to before n at which the row at a position grants permission p to user u, or n
 unfoldable pub rowFirst : List ℕ → ℕ → ℕ → ℕ → ℕ → ℕ → ℕ
 rowFirst s u p m n at = firstFrom m n (λ t. rowGrants s u p t at)
+
+-- row i, of those that begin at `first`, is of a role below `below` and grants at t
+unfoldable pub grantsBelow : List ℕ → ℕ → ℕ → ℕ → ℕ → ℕ → ℕ → Bool
+grantsBelow s u p below first t i = ltb (roleAtByte s (first + 16 * i)) below && rowGrants s u p t (first + 16 * i)
+
+-- the first minute from m on at which one of the first k rows does, or E
+unfoldable pub firstOfRows : List ℕ → ℕ → ℕ → ℕ → ℕ → ℕ → ℕ → ℕ
+firstOfRows s u p m below first k = firstFrom m E (λ t. anyBelow k (grantsBelow s u p below first t))
+
+-- the rows from one position to another are of one role, and are over at m or begin at `best` or later, going by the last and the first of them
+unfoldable pub idle : List ℕ → ℕ → ℕ → ℕ → ℕ → Bool
+idle s m best at last =
+    (leb (rowAtByte s last .window .end) m || leb best (rowAtByte s at .window .begin)) && eqb (roleAtByte s at) (roleAtByte s last)
 
 -- the first minute from m on at which a role below `below` answers to user u and permission p, or E
 unfoldable pub firstUse : Table → ℕ → ℕ → ℕ → ℕ → ℕ
