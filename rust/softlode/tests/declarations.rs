@@ -1,4 +1,4 @@
-//! The header, the proved crate behind it and this wrapper declare the same functions and fields,
+//! The header, the proved crates behind it and this wrapper declare the same functions and fields,
 //! and the header and the wrapper say the same of each refusal. Read from their texts. The README's
 //! example in Rust is the crate's first, which runs as a test.
 
@@ -6,7 +6,10 @@ use softlode::Refusal;
 
 const HEADER: &str = include_str!("../../../include/softlode.h");
 const INTERFACE: &str = include_str!("../../../crates/softlode/src/lib.rt");
-const SERVICE: &str = include_str!("../../../crates/service/src/lib.rt");
+const STRUCTURES: &str = concat!(
+    include_str!("../../../crates/told/src/lib.rt"),
+    include_str!("../../../crates/machine/src/lib.rt"),
+);
 const WRAPPER: &str = concat!(
     include_str!("../src/ffi.rs"),
     include_str!("../src/lent.rs"),
@@ -57,8 +60,7 @@ fn rust_fields(text: &str, name: &str) -> Vec<String> {
 fn the_same_fields() {
     for [c, proved, wrapped] in STRUCTS {
         let expected = c_fields(c);
-        let text = if proved == "Service" { SERVICE } else { INTERFACE };
-        assert_eq!(rust_fields(text, proved), expected, "{c}");
+        assert_eq!(rust_fields(STRUCTURES, proved), expected, "{c}");
         let found = match wrapped.strip_prefix("Told<").and_then(|rest| rest.strip_suffix('>')) {
             Some("u32") => vec!["refusal: u32".into(), "minute: u32".into()],
             Some(values) => [vec!["refusal: u32".into()], rust_fields(WRAPPER, values)].concat(),
