@@ -26,7 +26,7 @@ rotaBytes ρ =
     headerBytes ρ ++ joined hoursBytes (ρ .hours) ++ joined refBytes (ρ .roles) ++ joined rowBytes (ρ .user-rows)
     ++ joined rowBytes (ρ .permission-rows)
 
--- what bytes spell: the header's length, which the format decides, and its fields
+-- what bytes spell: the header's length, and its fields
 unfoldable pub headerLength : List ℕ → ℕ
 headerLength s = 12
 

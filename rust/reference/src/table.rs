@@ -1,7 +1,7 @@
 //! Flat tables: derived roles whose users and permissions never change, and rows that say when.
 
 use crate::bytes::{u16_at, u32_at, u64_at};
-use crate::policy::Policy;
+use crate::policy::{Policy, question};
 use crate::set;
 use crate::{CYCLE_LIMIT, END, Refusal};
 
@@ -147,6 +147,21 @@ impl Table {
             out.extend(row.length.to_le_bytes());
         }
         out
+    }
+
+    /// The first minute from `m` on at which `user` may use `permission`. Each row that grants it is
+    /// looked through minute by minute, for no longer than a cycle.
+    pub fn next_use(&self, user: u32, permission: u32, m: u32) -> Result<Option<u32>, Refusal> {
+        question(self, user, permission, m)?;
+        let grants = |row: &&Row| {
+            let entry = &self.derived[row.derived as usize];
+            set::has(entry.users, user) && set::has(entry.permissions, permission)
+        };
+        let first = |row: &Row| {
+            let mut minutes = (m.max(row.begin)..row.end).take(self.cycle.into());
+            minutes.find(|&t| row.enables(self.cycle, t))
+        };
+        Ok(self.rows.iter().filter(grants).filter_map(first).min())
     }
 
     /// The derived roles that are enabled at `t`, once for each row that enables them.

@@ -95,6 +95,31 @@ fn a_table_answers_as_its_rota_at_edges() {
     }
 }
 
+/// The next use from its definition alone, near the first minutes and the last.
+#[test]
+fn the_next_use_minute_by_minute() {
+    let mut random = Random::new(4);
+    let mut seen = [0; 3];
+    for _ in 0..1_000 {
+        let table = generate::small_table(&mut random);
+        let user = random.below(table.users.into());
+        let permission = random.below(table.permissions.into());
+        for (first, last) in [(0, 80), (END - 60, END)] {
+            for m in first..last {
+                let next = table.next_use(user, permission, m).expect("numbers that are there");
+                let mut minutes = m..next.unwrap_or(last).min(last);
+                assert!(minutes.all(|t| table.answer(user, permission, t).is_none()));
+                assert!(next.is_none_or(|t| table.answer(user, permission, t).is_some()));
+                seen[usize::from(next.is_some()) + usize::from(next == Some(m))] += 1;
+            }
+        }
+        assert_eq!(table.next_use(user, permission, END), Err(33));
+        assert_eq!(table.next_use(table.users.into(), 64, 0), Err(34));
+        assert_eq!(table.next_use(user, table.permissions.into(), 0), Err(35));
+    }
+    assert!(seen.iter().all(|&times| times > 1_000), "none, later and now: {seen:?}");
+}
+
 /// The rewriting from its definition alone: every minute of a field is looked at.
 fn rows_by_every_minute(rota: &Rota) -> Vec<(u8, u64, u64, u32, u32, u32, u32)> {
     let cycle = u32::from(rota.cycle);

@@ -105,6 +105,19 @@ fn worked_minutes() {
 }
 
 #[test]
+fn worked_next_uses() {
+    let table = rewriting::table(&small());
+    let from = |user, m| table.next_use(user, 0, m);
+    assert_eq!(
+        [0, 4, 8, 19].map(|m| from(0, m)),
+        [Ok(Some(0)), Ok(Some(6)), Ok(Some(10)), Ok(None)]
+    );
+    assert_eq!([0, 36, 37].map(|m| from(1, m)), [Ok(Some(12)), Ok(Some(36)), Ok(None)]);
+    assert_eq!((from(0, END - 1), from(0, END), from(2, 0)), (Ok(None), Err(33), Err(34)));
+    assert_eq!(table.next_use(0, 1, 0), Err(35));
+}
+
+#[test]
 fn worked_calls() {
     let (rota, table) = (data::small_rota(), data::small_table());
     for lent in [Lent::Rota(&rota), Lent::Table(&table)] {

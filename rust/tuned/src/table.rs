@@ -93,11 +93,41 @@ impl<'a> Table<'a> {
         Ok(Table { cycle, users, permissions, roles, entries, rows, starts })
     }
 
+    fn rows_of(&self, source: u8) -> &'a [RowBytes] {
+        let source = usize::from(source);
+        &self.rows[self.starts[source] as usize..self.starts[source + 1] as usize]
+    }
+
+    /// The first minute from `m` on at which `user` may use `permission`.
+    pub fn next_use(&self, user: u32, permission: u32, m: u32) -> Result<Option<u32>, Refusal> {
+        ensure(m < END, 33)?;
+        ensure(user < self.users(), 34)?;
+        ensure(permission < self.permissions(), 35)?;
+        let mut best = END;
+        for source in 0..self.roles {
+            let rows = self.rows_of(source);
+            let over = rows.partition_point(|row| u32_at(row, 8) <= m);
+            for row in &rows[over..] {
+                let row = decode(row);
+                // Nor do the rows after it begin earlier.
+                if best <= row.begin {
+                    break;
+                }
+                if grants(&self.entries[row.derived as usize], user, permission) {
+                    let t = first_in(&row, self.cycle, m.max(row.begin));
+                    if t < row.end {
+                        best = best.min(t);
+                    }
+                }
+            }
+        }
+        Ok((best < END).then_some(best))
+    }
+
     /// The entry of a source that is enabled at `t`. There is at most one: the rows of a source
     /// are sorted and no two of them share a minute.
     fn enabled(&self, source: u8, t: u32, phase: u32) -> Option<&'a Entry> {
-        let source = usize::from(source);
-        let rows = &self.rows[self.starts[source] as usize..self.starts[source + 1] as usize];
+        let rows = self.rows_of(source);
         // Rows of earlier eras, and those of the era of `t` that do not start after the phase.
         let after = rows.partition_point(|row| {
             let row = decode(row);
@@ -112,6 +142,24 @@ impl<'a> Table<'a> {
     fn all_enabled(&self, t: u32) -> impl Iterator<Item = &'a Entry> {
         let phase = t % self.cycle;
         (0..self.roles).filter_map(move |source| self.enabled(source, t, phase))
+    }
+}
+
+#[inline]
+fn grants(entry: &Entry, user: u32, permission: u32) -> bool {
+    has(u64_at(entry, 1), user) && has(u64_at(entry, 9), permission)
+}
+
+/// The first minute from `from` on whose phase is in the row's cell.
+#[inline]
+fn first_in(row: &Row, cycle: u32, from: u32) -> u32 {
+    let (phase, offset) = (from % cycle, u32::from(row.offset));
+    if phase < offset {
+        from + (offset - phase)
+    } else if phase < row.cell_end() {
+        from
+    } else {
+        from + (cycle - phase) + offset
     }
 }
 
@@ -172,9 +220,7 @@ impl Policy for Table<'_> {
     }
 
     fn answer(&self, user: u32, permission: u32, t: u32) -> Option<u8> {
-        let grants =
-            |entry: &&Entry| has(u64_at(*entry, 1), user) && has(u64_at(*entry, 9), permission);
-        self.all_enabled(t).find(grants).map(|entry| entry[0])
+        self.all_enabled(t).find(|entry| grants(entry, user, permission)).map(|entry| entry[0])
     }
 
     fn holders(&self, t: u32) -> u64 {

@@ -64,6 +64,16 @@ fn compare_table(case: &mut Case, tally: &mut Tally, bytes: &[u8], near: &Table)
         let (cycle, roles) = (u32::from(expected.cycle), expected.roles as u8);
         let wanted = (cycle, roles, expected.derived.len(), expected.rows.len());
         case.same(counts, wanted, bytes, "counts");
+        for _ in 0..3 {
+            let (user, permission, m) = (
+                generate::number(&mut case.random, expected.users()),
+                generate::number(&mut case.random, expected.permissions()),
+                generate::table_minute(&mut case.random, near),
+            );
+            let quickly = quick.next_use(user, permission, m);
+            let wanted = expected.next_use(user, permission, m);
+            case.same(quickly, wanted, bytes, (user, permission, m));
+        }
     }
     let expected = expected.as_ref().map(|table| table as &dyn Policy).map_err(|&refusal| refusal);
     let minute = |random: &mut Random| generate::table_minute(random, near);
