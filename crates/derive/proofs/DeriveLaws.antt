@@ -15,12 +15,13 @@ use Rattle.ground.specs.Choice.{pick}
 use Rattle.table.specs.Table.{Entry}
 use Rattle.derivation.specs.Roles.{nextEntries, markOf, derivedFrom, marksFrom}
 use Rattle.derivation.proofs.RoleMarks.{derived-length}
-use Rattle.derive.specs.declared.Role.{Role}
 use Rattle.index.specs.Entries.{entriesTo}
 use Rattle.index.proofs.EntryLaws.{entries-length, entries-none}
-use Rattle.derive.specs.declared.Sets.{Sets}
-use Rattle.derive.specs.Role.{keptWith, keptBy, Gathered}
-use Rattle.derive.specs.Derive.{rowsIn, grown, Marked, Room, Derived, DerivedTo}
+use Rattle.marking.specs.declared.Role.{Role}
+use Rattle.marking.specs.declared.Sets.{Sets}
+use Rattle.marking.specs.Role.{keptWith, keptBy, Gathered}
+use Rattle.marking.specs.Mark.{grown, Marked}
+use Rattle.derive.specs.Derive.{rowsIn, Room, Derived, DerivedTo}
 use Rattle.derive.proofs.ScratchLaws.{Lent, lent-start, lent-on, room-kept}
 
 -- ---- one mask more

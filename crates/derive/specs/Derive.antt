@@ -1,32 +1,20 @@
 -- The derived roles of one role in the order in which they come, and the mark of each field.
 use Prim.Native.Nat.{ℕ, _+_, _*_, _≤_}
 use mathlib.Core.Path.{_≡_}
-use mathlib.Core.Option.{Option}
 use mathlib.Core.List.{List, [], _∷_}
-use lib.Dec.{ltb, eqb}
+use lib.Dec.{ltb}
 use lib.ListN.{length, take}
 use Rattle.ground.specs.Choice.{pick}
-use Rattle.table.specs.Table.{Entry}
-use Rattle.derivation.specs.Roles.{nextEntries, markOf, derivedFrom, marksFrom}
+use Rattle.derivation.specs.Roles.{derivedFrom, marksFrom}
 use Rattle.index.specs.Entries.{entriesTo}
-use Rattle.derive.specs.declared.Role.{Role}
+use Rattle.marking.specs.declared.Role.{Role}
+use Rattle.marking.specs.Role.{keptBy}
 use Rattle.derive.specs.declared.Count.{Count}
-use Rattle.derive.specs.Role.{keptBy}
 
 -- a mark that is not 0 is a row
 unfoldable pub rowsIn : List ℕ → ℕ
 rowsIn [] = 0
 rowsIn (m ∷ ms) = pick (ltb 0 m) 1 0 + rowsIn ms
-
--- how many entries there are after a mark
-abbrev pub grown : ℕ → ℕ → ℕ
-grown d m = pick (eqb m (d + 1)) (d + 1) d
-
--- one field: its mark, and the entries afterwards
-pub record Marked (source : ℕ) (kept : Option Entry) (d : ℕ) (pairs pairs′ : List ℕ) (m : ℕ) : Type 0 where
-  pub marked : m ≡ markOf (entriesTo source d pairs) kept
-  pub small : m ≤ d + 1
-  pub entries-then : entriesTo source (grown d m) pairs′ ≡ nextEntries (entriesTo source d pairs) kept
 
 -- there is room for n masks, for n pairs, and for n marks with the links of n pairs after them; a mark fits two bytes
 pub record Room (n : ℕ) (masks pairs work : List ℕ) : Type 0 where

@@ -17,12 +17,12 @@ use Rattle.derivation.specs.Masks.{maskOf, keptIn}
 use Rattle.derivation.proofs.RewritingTheorems.{kept-mask}
 use Rattle.derivation.specs.Roles.{entriesAt, rowsAt, derivedFrom, marksFrom, rowsMarked}
 use Rattle.derivation.proofs.RoleMarks.{Agree, agree-masks, marks-length, role-entries, role-rows}
-use Rattle.derive.specs.Role.{keptBy, roleOf}
 use Rattle.index.specs.Entries.{entriesTo}
-use Rattle.derive.specs.Derive.{rowsIn, Derived, DerivedTo}
-use Rattle.derive.specs.declared.Role.{Role}
+use Rattle.marking.specs.declared.Role.{Role}
+use Rattle.marking.specs.Role.{keptBy, roleOf}
+use Rattle.marking.proofs.RoleLaws.{kept-by}
 use Rattle.derive.specs.declared.Count.{Count}
-use Rattle.derive.proofs.RoleLaws.{kept-by}
+use Rattle.derive.specs.Derive.{rowsIn, Derived, DerivedTo}
 use Rattle.roles.specs.Parts.{MasksAre, RoleDerived, RoleDerivedTo}
 
 -- ---- one row for each mark that is not 0

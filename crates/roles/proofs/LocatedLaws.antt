@@ -16,9 +16,9 @@ use Rattle.rota.specs.declared.Layout.{Layout}
 use Rattle.rota.proofs.RotaFine.{RowFine}
 use Rattle.rota.proofs.LocatedLaws.{fine, counted, roles-at, user-rows-at, permission-rows-at}
 use Rattle.derivation.specs.Masks.{slotOf}
-use Rattle.derive.specs.Role.{bySlot, roleOf}
-use Rattle.derive.specs.declared.Role.{Role}
-use Rattle.derive.proofs.RoleLaws.{slot-small}
+use Rattle.marking.specs.Role.{bySlot, roleOf}
+use Rattle.marking.specs.declared.Role.{Role}
+use Rattle.marking.proofs.RoleLaws.{slot-small}
 use Rattle.rota.specs.Inside.{Located}
 use Rattle.roles.specs.Parts.{RowsFit}
 

@@ -21,8 +21,8 @@ use Rattle.rota.specs.Rota.{Row}
 use Rattle.derivation.specs.Masks.{slotOf}
 use Rattle.rota.specs.RotaBytes.{hoursOf, rowAt}
 use Rattle.hours.specs.declared.HoursRef.{HoursRef}
-use Rattle.derive.specs.Role.{atSlot, bySlot}
-use Rattle.derive.proofs.RoleLaws.{slot-small}
+use Rattle.marking.specs.Role.{atSlot, bySlot}
+use Rattle.marking.proofs.RoleLaws.{slot-small}
 use Rattle.roles.specs.Parts.{RowsFit}
 
 any-snoc : (f : Row → Bool) (rows : List Row) (w : Row) → any f (rows ++ (w ∷ [])) ≡ (any f rows || f w)

@@ -5,12 +5,12 @@ ghost use Rattle.ground.specs.Sequence.{listOf};
 ghost use Rattle.rota.specs.Inside.{Located};
 ghost use Rattle.rota.specs.RotaBytes.{rolesOf, rotaOf, rowAt};
 ghost use Rattle.derivation.specs.Masks.{slotOf};
-ghost use Rattle.derive.specs.Role.{bySlot, roleOf};
+ghost use Rattle.marking.specs.Role.{bySlot, roleOf};
 ghost use Rattle.derive.specs.Derive.{Room};
 ghost use Rattle.roles.specs.Parts.{RowsFit, MasksAre, RoleDerivedTo};
 use derive::Count;
-use derive::Role;
 use hours::HoursRef;
+use marking::Role;
 use rota::Layout;
 
 // The slot of a reference: the number of its hours record, or 32 for always.

@@ -5,13 +5,14 @@ use mathlib.Core.Logic.{⊎-elim}
 use Prim.Native.Nat.{_-_, _≤_}
 use lib.ListN.{length, drop}
 use lib.Seq.{drop-set-lt}
-use Rattle.derive.specs.Derive.{roleMade, grown}
 use Rattle.index.specs.Tree.{Indexed}
+use Rattle.marking.specs.Mark.{grown}
+use Rattle.marking.proofs.UnionLaws.{within-all}
+use Rattle.marking.proofs.MarkLaws.{grown-yes, grown-no, index-then}
+use Rattle.derive.specs.Derive.{roleMade}
 use Rattle.derive.proofs.DeriveLaws.{Deriving, deriving-start, deriving-turn, deriving-to, row-yes, row-no}
 use Rattle.derive.proofs.ScratchLaws.{lent-start, lent-on, room-kept}
 use Rattle.derive.proofs.PartLaws.{part-is, back-first, back-part}
-use Rattle.derive.proofs.UnionLaws.{within-all}
-use Rattle.derive.proofs.MarkLaws.{grown-yes, grown-no, index-then}
 use borrow.Author.Needs.{needs}
 use borrow.Rule.Slice.PartMut.{mid-len}
 use Rattle.derive.proofs.derive.Statement.{statement}

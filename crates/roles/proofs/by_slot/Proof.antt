@@ -4,7 +4,7 @@ use native.Mathlib.Omega.{arith}
 use mathlib.Core.Path.{_≡_, ap, _∙_}
 use mathlib.Core.Logic.{⊎-elim}
 use Prim.Native.Nat.{ℕ, _-_, _≤_}
-use Rattle.derive.specs.Role.{bySlot}
+use Rattle.marking.specs.Role.{bySlot}
 use Rattle.rota.specs.RotaBytes.{rowAt}
 use Rattle.ground.specs.Sequence.{listOf}
 use Rattle.roles.proofs.SlotLaws.{slots-none, slots-in, slots-out}

@@ -27,8 +27,8 @@ use Rattle.hours.specs.declared.HoursRef.the-variants.{Always, Numbered}
 use Rattle.rota.specs.Rota.{Row, Rota, roleHours}
 use Rattle.rota.specs.RotaWell.{RefWell, RowWell, RotaWell}
 use Rattle.derivation.specs.Masks.{slotOf, assignedIn, usersIn, permissionsIn, keptIn}
-use Rattle.derive.specs.Role.{unionOf, setsMade, setsIn, keptWith, keptBy, atSlot, bySlot, roleOf}
-use Rattle.derive.proofs.UnionLaws.{has-union-of, union-lt}
+use Rattle.marking.specs.Role.{unionOf, setsMade, setsIn, keptWith, keptBy, atSlot, bySlot, roleOf}
+use Rattle.marking.proofs.UnionLaws.{has-union-of, union-lt}
 
 pub slot-small : (h : ℕ) (ref : HoursRef) → h ≤ 32 → RefWell h ref → slotOf ref < 33
 unfolding slotOf dangling

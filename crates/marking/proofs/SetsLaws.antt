@@ -13,9 +13,9 @@ use Rattle.ground.proofs.BoolLaws.{clash}
 use Rattle.bitset.specs.Sets.{has}
 use Rattle.bitset.proofs.SetLaws.{has-none}
 use Rattle.index.specs.Tree.{Within}
-use Rattle.derive.specs.declared.Sets.{Sets}
-use Rattle.derive.specs.Role.{unionOf, setsMade, setsIn, entryOf, keptWith, Gathered}
-use Rattle.derive.proofs.UnionLaws.{union-within}
+use Rattle.marking.specs.declared.Sets.{Sets}
+use Rattle.marking.specs.Role.{unionOf, setsMade, setsIn, entryOf, keptWith, Gathered}
+use Rattle.marking.proofs.UnionLaws.{union-within}
 
 -- ---- a field is kept by both sets
 

@@ -1,9 +1,9 @@
 use native.Mathlib.Omega.{arith}
-use Rattle.derive.proofs.SetsLaws.{no-users, no-permissions, both-sets}
-use Rattle.derive.proofs.MarkLaws.{mark-none, mark-kept, index-none, index-kept}
+use Rattle.marking.proofs.SetsLaws.{no-users, no-permissions, both-sets}
+use Rattle.marking.proofs.MarkLaws.{mark-none, mark-kept, index-none, index-kept}
 use borrow.Author.Needs.{needs}
-use Rattle.derive.proofs.mark_field.Statement.{statement}
-use Rattle.derive.proofs.mark_field.Tie as tie
+use Rattle.marking.proofs.mark_field.Statement.{statement}
+use Rattle.marking.proofs.mark_field.Tie as tie
 
 returns : tie.Need-returns
 returns c = let a = c .before .before .before .args in (mark-none (a .source) (a .d) (a .pairs .now) _ (no-users (a .source) (a .x) (c .if1 .taken)), index-none (c .before .before .before .pre .1 .0))

@@ -14,8 +14,8 @@ use Rattle.rota.specs.Rota as rota
 use Rattle.table.specs.Table.{Entry}
 use Rattle.derivation.specs.Masks.{slotOf}
 use Rattle.index.specs.Tree.{Within}
-use Rattle.derive.specs.declared.Role.{Role}
-use Rattle.derive.specs.declared.Sets.{Sets}
+use Rattle.marking.specs.declared.Role.{Role}
+use Rattle.marking.specs.declared.Sets.{Sets}
 
 -- the union of those of the first k sets whose numbers are in the mask
 unfoldable pub unionOf : List ℕ → ℕ → ℕ → ℕ

@@ -2,11 +2,11 @@
 use native.Mathlib.Omega.{arith}
 use mathlib.Core.Path.{sym, _∙_, ap}
 use Rattle.bitset.specs.Sets.{intersection}
-use Rattle.derive.proofs.UnionLaws.{union-empty}
-use Rattle.derive.proofs.SetsLaws.{without-users, without-permissions, not-enabled, with-both}
+use Rattle.marking.proofs.UnionLaws.{union-empty}
+use Rattle.marking.proofs.SetsLaws.{without-users, without-permissions, not-enabled, with-both}
 use borrow.Author.Needs.{needs}
-use Rattle.derive.proofs.sets_in.Statement.{statement}
-use Rattle.derive.proofs.sets_in.Tie as tie
+use Rattle.marking.proofs.sets_in.Statement.{statement}
+use Rattle.marking.proofs.sets_in.Tie as tie
 
 both-requires : tie.Need-both-requires
 both-requires c κs = search needs

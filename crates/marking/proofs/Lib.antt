@@ -1,0 +1,4 @@
+pub mod UnionLaws
+pub mod SetsLaws
+pub mod MarkLaws
+pub mod RoleLaws
