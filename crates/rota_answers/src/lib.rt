@@ -52,13 +52,23 @@ fn row_with(s: &[u8], h: usize, set: u64, at: usize, roles: u64) -> bool
     }
 }
 
-// The roles that the n rows from `at` on give to number x.
-fn roles_of(s: &[u8], h: usize, set: u64, at: usize, n: usize, top: usize, x: u32) -> u64
-    requires { ⌜ RowsFine (now s) top at n × (h ≡ hoursOf (now s)) × (h ≤ 32) × (rolesOf (now s) ≤ 32) ⌝ }
+// The roles that the n rows from `at` on give to number x, where those that the first `from` of them give are `before`.
+fn roles_from(
+    s: &[u8],
+    h: usize,
+    set: u64,
+    at: usize,
+    n: usize,
+    top: usize,
+    x: u32,
+    from: usize,
+    before: u64,
+) -> u64
+    requires { ⌜ RowsFine (now s) top at n × (h ≡ hoursOf (now s)) × (h ≤ 32) × (rolesOf (now s) ≤ 32) × (from ≤ n) × (before ≡ rolesOfNumber (now s) set at from x) ⌝ }
     ensures { λ r. ⌜ r ≡ rolesOfNumber (now (s .entry)) set at n x ⌝ }
 {
-    let mut roles = 0;
-    let mut k = 0;
+    let mut roles = before;
+    let mut k = from;
     while k < n {
         let i = at + 3 * k;
         if row_of(s, h, set, i, x) {
@@ -67,6 +77,23 @@ fn roles_of(s: &[u8], h: usize, set: u64, at: usize, n: usize, top: usize, x: u3
         k += 1;
     }
     roles
+}
+
+// The roles that the n rows from `at` on give to number x. Sixteen rows none of which has the number are passed at once.
+fn roles_of(s: &[u8], h: usize, set: u64, at: usize, n: usize, top: usize, x: u32) -> u64
+    requires { ⌜ RowsFine (now s) top at n × (h ≡ hoursOf (now s)) × (h ≤ 32) × (rolesOf (now s) ≤ 32) ⌝ }
+    ensures { λ r. ⌜ r ≡ rolesOfNumber (now (s .entry)) set at n x ⌝ }
+{
+    let byte = (x % 256) as u8;
+    let mut roles = 0;
+    let mut k = 0;
+    while 16 <= n - k {
+        if rowscan::any_numbered(s, at + 3 * k, byte) {
+            roles = roles_from(s, h, set, at, k + 16, top, x, k, roles);
+        }
+        k += 16;
+    }
+    roles_from(s, h, set, at, n, top, x, k, roles)
 }
 
 // The roles that the n rows from `at` on give to anyone.

@@ -1,11 +1,13 @@
-// Rows of three bytes, a number, a role and an hours reference: whether one of many has a byte out of range. Sixteen rows are 48 bytes and are looked at
-// together, each byte against a range of its own and without stopping, so that the compiler can make vector code of it.
+// Rows of three bytes, a number, a role and an hours reference: whether one of many has a byte out of range, and whether one of sixteen has a given
+// number. Sixteen rows are 48 bytes and are looked at together, each byte against a range of its own and without stopping, so that the compiler can make
+// vector code of it.
 ghost use mathlib.Core.Path.{_≡_};
 ghost use Prim.Native.Nat.{_+_, _*_, _≤_, _<_};
 ghost use mathlib.Core.Bool.{_&&_};
-ghost use lib.Dec.{leb};
+ghost use lib.Dec.{leb, eqb};
 ghost use lib.ListN.{length};
 ghost use Rattle.ground.specs.Search.{anyBelow, one};
+ghost use Rattle.endian.specs.Numbers.{u8At};
 ghost use Rattle.rowscan.specs.Rows.{rowOut, byteOut, Pattern};
 
 // a, b and c, sixteen times.
@@ -110,4 +112,14 @@ pub fn rows_out(s: &[u8], at: usize, n: usize, top: u8, roles: u8, hours: u8) ->
     }
     let first = 16 * blocks;
     rest_out(s, at + 3 * first, n - first, top, roles, hours)
+}
+
+// Whether one of the 16 rows from `at` on has number x: the range of a first byte is x alone, and that of the other two is empty.
+pub fn any_numbered(s: &[u8], at: usize, x: u8) -> bool
+    requires { ⌜ at + 48 ≤ length (now s) ⌝ }
+    ensures { λ r. ⌜ r ≡ anyBelow 16 (λ k. eqb (u8At (now (s .entry)) (at + 3 * k)) x) ⌝ }
+{
+    let low = pattern(x, 255, 255);
+    let high = pattern(x, 0, 0);
+    block_out(s, at, &low, &high)
 }

@@ -1,78 +1,73 @@
--- The roles that the rows so far give to the number are gathered.
+-- The roles that the blocks so far give to the number are gathered; a block without it gives none.
 use borrow.Author.Needs.{needs}
-use Rattle.rota_answers.proofs.GatherRows.{ofNumber, roleAt, row-within, row-refers}
-use Rattle.rota_answers.specs.Gathered.{rolesOfNumber}
-use Rattle.rota.specs.RotaBytes.{rolesOf}
-use Rattle.bitset.proofs.GatherLaws.{gather-none, gather-in, gather-out}
-use native.Mathlib.Nat.{le-antisymm}
 use native.Mathlib.Omega.{arith}
 use mathlib.Core.Logic.{⊎-elim}
-use mathlib.Core.Path.{_≡_, refl, _∙_}
-use Prim.Native.Nat.{_≤_, _-_}
+use mathlib.Core.Path.{_≡_, sym, _∙_}
+use Prim.Native.Nat.{_≤_, _-_, _%_}
+use Rattle.bitset.proofs.GatherLaws.{gather-none}
+use Rattle.rota.specs.RotaBytes.{rolesOf}
+use Rattle.rota_answers.specs.Gathered.{rolesOfNumber}
+use Rattle.rota_answers.proofs.GatherRows.{ofNumber, roleAt, fewer-fine, pass-rows}
 use Rattle.rota_answers.proofs.roles_of.Statement.{statement}
 use Rattle.rota_answers.proofs.roles_of.Tie as tie
 
 abbrev Inv-loop : tie.InvT-loop
-Inv-loop s h set at n top x roles₀ k₀ roles k = (k ≤ n) × (roles ≡ rolesOfNumber s set at k x)
+Inv-loop s h set at n top x byte roles₀ k₀ roles k = (k ≤ n) × (roles ≡ rolesOfNumber s set at k x)
 
 abbrev μ-loop : tie.MeasureT-loop
-μ-loop s h set at n top x roles₀ k₀ roles k = n - k
+μ-loop s h set at n top x byte roles₀ k₀ roles k = n - k
 
--- src/lib.rt:278:5
+cast-byte : tie.Need-cast-byte Inv-loop μ-loop
+cast-byte c = search needs
+
 loop-holds : tie.Need-loop-holds Inv-loop μ-loop
 unfolding rolesOfNumber
-loop-holds c = let a = c .before .args in (search needs, gather-none (rolesOf (a .s .now)) (omega (arith, c .before .pre .3)) (ofNumber (a .s .now) (a .set) (a .at) (a .x)) (roleAt (a .s .now) (a .at)))
+loop-holds c =
+    let a = c .before .args in
+    (search needs, gather-none (rolesOf (a .s .now)) (omega (arith, c .before .pre .3)) (ofNumber (a .s .now) (a .set) (a .at) (a .x)) (roleAt (a .s .now) (a .at)))
 
--- src/lib.rt:279:22
-mul-i : tie.Need-mul-i Inv-loop μ-loop
-mul-i c = omega (arith, row-within _ _ _ _ (c .before .before .before .pre .0) _ (c .loop-test .taken))
+sub-loop : tie.Need-sub-loop Inv-loop μ-loop
+sub-loop c = search needs
 
--- src/lib.rt:279:17
-add-i : tie.Need-add-i Inv-loop μ-loop
-add-i c = omega (arith, row-within _ _ _ _ (c .before .before .before .pre .0) _ (c .loop-test .taken))
+mul-any-numbered : tie.Need-mul-any-numbered Inv-loop μ-loop
+mul-any-numbered c = omega (arith, c .before .before .before .pre .0 .within)
 
--- src/lib.rt:280:12
-row-of-requires : tie.Need-row-of-requires Inv-loop μ-loop
-row-of-requires c κs = let p = c .before .before .before .pre in (row-within _ _ _ _ (p .0) _ (c .loop-test .taken), p .2, row-refers _ _ _ _ (p .0) _ (c .loop-test .taken) _ (p .1))
+add-any-numbered : tie.Need-add-any-numbered Inv-loop μ-loop
+add-any-numbered c = omega (arith, c .before .before .before .pre .0 .within)
 
--- src/lib.rt:281:58
-add-read8 : tie.Need-add-read8 Inv-loop μ-loop
-add-read8 c = omega (arith, row-within _ _ _ _ (c .before .before .before .before .before .pre .0) _ (c .before .before .loop-test .taken))
+any-numbered-requires : tie.Need-any-numbered-requires Inv-loop μ-loop
+any-numbered-requires c κs = omega (arith, c .before .before .before .pre .0 .within)
 
--- src/lib.rt:281:41
-read8-requires : tie.Need-read8-requires Inv-loop μ-loop
-read8-requires c κs = omega (arith, row-within _ _ _ _ (c .before .before .before .before .before .pre .0) _ (c .before .before .loop-test .taken))
+add-roles-from : tie.Need-add-roles-from Inv-loop μ-loop
+add-roles-from c = search needs
 
--- src/lib.rt:281:41
-cast-with : tie.Need-cast-with Inv-loop μ-loop
-cast-with c = omega (arith, c .read8 .ensures .1)
+roles-from-requires : tie.Need-roles-from-requires Inv-loop μ-loop
+roles-from-requires c κs =
+    let p = c .before .before .before .before .before .pre in
+    let l = c .before .before .before .loop in
+    (fewer-fine _ _ _ _ (p .0) _ (omega arith), p .1, p .2, p .3, omega arith, l .inv .1)
 
--- src/lib.rt:281:13
-with-requires : tie.Need-with-requires Inv-loop μ-loop
-with-requires c κs = omega (arith, c .read8 .ensures .0, c .before .before .before .before .before .before .pre .3, c .before .before .before .before .before .before .pre .0 .each _ (c .before .before .before .loop-test .taken) .role)
-
--- src/lib.rt:283:9
 add-k : tie.Need-add-k Inv-loop μ-loop
 add-k c = search needs
 
--- src/lib.rt:278:5
 loop-less : tie.Need-loop-less Inv-loop μ-loop
 loop-less c = search needs
 
--- src/lib.rt:278:5
 loop-again : tie.Need-loop-again Inv-loop μ-loop
-unfolding rolesOfNumber
-loop-again c = let a = c .before .before .before .before .before .args in let p = c .before .before .before .before .before .pre in (
-  omega arith,
-  ⊎-elim
-      (λ w. gather-in (rolesOf (a .s .now)) (omega (arith, p .3)) (ofNumber (a .s .now) (a .set) (a .at) (a .x)) (roleAt (a .s .now) (a .at)) _ _ _ _ _ (c .before .before .before .loop .inv .1) (c .before .row-of .ensures) (w .1 .ensures .0) (omega (arith, w .1 .ensures .0, p .0 .each _ (c .before .before .loop-test .taken) .role)) (w .0 .taken) (w .3 ∙ w .2 .ensures))
-      (λ w. gather-out (rolesOf (a .s .now)) (omega (arith, p .3)) (ofNumber (a .s .now) (a .set) (a .at) (a .x)) (roleAt (a .s .now) (a .at)) _ _ _ _ _ (c .before .before .before .loop .inv .1) (c .before .row-of .ensures) refl (w .0 .left) (w .1))
-      (c .if1 .came),
-)
+loop-again c =
+    let l = c .before .before .before .loop in (
+      omega arith,
+      ⊎-elim
+          (λ w. w .2 ∙ w .1 .ensures)
+          (λ w. w .1 ∙ l .inv .1 ∙ pass-rows _ (λ i. omega (arith, c .before .before .before .before .shared-slice-known .given i)) _ _ _ _ (sym (c .before .any-numbered .ensures) ∙ w .0 .left))
+          (c .if1 .came),
+    )
 
--- src/lib.rt:272:1
+roles-from-requires-2 : tie.Need-roles-from-requires-2 Inv-loop μ-loop
+roles-from-requires-2 c κs = let p = c .before .before .before .pre in (p .0, p .1, p .2, p .3, c .before .loop .inv .0, c .before .loop .inv .1)
+
 returns : tie.Need-returns Inv-loop μ-loop
-returns c = let a = c .before .before .before .args in rw (← (le-antisymm (c .before .loop .inv .0) (c .loop-test .left))) (c .before .loop .inv .1)
+returns c = c .roles-from2 .ensures
 
 pub roles-of-spec : {M : Type 1} → statement M
 roles-of-spec =
@@ -80,15 +75,16 @@ roles-of-spec =
     (tie.spec
     Inv-loop
     μ-loop
+    cast-byte
     loop-holds
-    mul-i
-    add-i
-    row-of-requires
-    add-read8
-    read8-requires
-    cast-with
-    with-requires
+    sub-loop
+    mul-any-numbered
+    add-any-numbered
+    any-numbered-requires
+    add-roles-from
+    roles-from-requires
     add-k
     loop-less
     loop-again
+    roles-from-requires-2
     returns)
