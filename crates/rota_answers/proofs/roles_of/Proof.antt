@@ -3,7 +3,7 @@ use borrow.Author.Needs.{needs}
 use native.Mathlib.Omega.{arith}
 use mathlib.Core.Logic.{⊎-elim}
 use mathlib.Core.Path.{_≡_, sym, _∙_}
-use Prim.Native.Nat.{_≤_, _-_, _%_}
+use Prim.Native.Nat.{_≤_, _-_}
 use Rattle.bitset.proofs.GatherLaws.{gather-none}
 use Rattle.rota.specs.RotaBytes.{rolesOf}
 use Rattle.rota_answers.specs.Gathered.{rolesOfNumber}
