@@ -1,12 +1,17 @@
--- Whole cycles are skipped.
---     turned         what is so at each minute of one cycle is so at each minute to the era's end
---     stretched      the same from a minute whose stretch is known
+-- Stretches: whole cycles are skipped, and what is made of things that stretch stretches too.
+--     turned              what is so at each minute of one cycle is so at each minute to the era's end
+--     stretched           the same from a minute whose stretch is known
+--     stretch-both        what is made of two goes by the shorter stretch
+--     stretch-of          what is, before a minute, made of one
+--     stretch-shorter     a shorter era will do
+--     phase-on            the phase goes on with the minutes, to the turn of the cycle
 -- Assumes nothing.
-use Prim.Native.Nat.{ℕ, zero, suc, _+_, _-_, _≤_, _<_}
-use mathlib.Core.Path.{_≡_, sym, subst}
-use native.Mathlib.Nat.{lt-of-not-le}
+use Prim.Native.Nat.{ℕ, zero, suc, _+_, _-_, _*_, _/_, _%_, _≤_, _<_, min}
+use mathlib.Core.Path.{_≡_, sym, ap, ap₂, _∙_, subst}
+use native.Mathlib.Nat.{lt-of-not-le, div-add-mod'}
 use native.Mathlib.Decide.{decLe}
 use native.Mathlib.Omega.{arith}
+use lib.Arith.{digits-mod}
 use Rattle.minutes.specs.Stretch.{Stretch}
 
 module _ {A : Type 0} (f : ℕ → A) (c x era : ℕ) (pos : 0 < c) (turns : (v : ℕ) → x ≤ v → v + c < era → f (v + c) ≡ f v) (P : A → Type 0)
@@ -29,3 +34,32 @@ module _ {A : Type 0} (f : ℕ → A) (c x era : ℕ) (pos : 0 < c) (turns : (v 
 pub stretched : {A : Type 0} {f : ℕ → A} {c t until era : ℕ} → 0 < c → Stretch f c t until era → (P : A → Type 0)
     → ((v : ℕ) → t ≤ v → v < t + c → v < era → P (f v)) → (v : ℕ) → t ≤ v → v < era → P (f v)
 stretched {A} {f} {c} {t} {until} {era} pos s P first = turned f c t era pos (s .turns) P first
+
+module _ {A : Type 0} {f : ℕ → A} {c t until era : ℕ} (s : Stretch f c t until era) where
+  pub stretch-both : {B D : Type 0} {g : ℕ → B} {until′ era′ : ℕ} → Stretch g c t until′ era′ → (made : A → B → D)
+      → Stretch (λ v. made (f v) (g v)) c t (min until until′) (min era era′)
+  stretch-both {B} {D} {g} {until′} {era′} r made =
+      record {
+        after = omega (arith, s .after, r .after);
+        fixed = λ v p q. ap₂ made (s .fixed v p (omega arith)) (r .fixed v p (omega arith));
+        longer = omega (arith, s .longer, r .longer);
+        turns = λ v p q. ap₂ made (s .turns v p (omega arith)) (r .turns v p (omega arith));
+      }
+
+  pub stretch-of : {B : Type 0} {g : ℕ → B} (made : A → B) (n : ℕ) → until ≤ n → era ≤ n → ((v : ℕ) → v < n → g v ≡ made (f v)) → Stretch g c t until era
+  stretch-of {B} {g} made n lu le is =
+      record {
+        after = s .after;
+        fixed = λ v p q. is v (omega arith) ∙ ap made (s .fixed v p q) ∙ sym (is t (omega (arith, s .after)));
+        longer = s .longer;
+        turns = λ v p q. is (v + c) (omega arith) ∙ ap made (s .turns v p q) ∙ sym (is v (omega arith));
+      }
+
+  pub stretch-shorter : {era′ : ℕ} → t < era′ → era′ ≤ era → Stretch f c t until era′
+  stretch-shorter {era′} l m =
+      record { after = s .after; fixed = s .fixed; longer = l; turns = λ v p q. s .turns v p (omega arith) }
+
+pub phase-on : (c t v : ℕ) → t ≤ v → t % c + (v - t) < c → v % c ≡ t % c + (v - t)
+phase-on c t v l m =
+    let e : v ≡ t / c * c + (t % c + (v - t)) = omega (arith, div-add-mod' t c) in
+    ap (λ (w : ℕ). w % c) e ∙ digits-mod (t / c) m

@@ -1,11 +1,18 @@
 // The minutes of the archive's calendar, and the tests of a window of dates and of the cycle.
 ghost use mathlib.Core.Path.{_≡_};
-ghost use Prim.Native.Nat.{_<_, _≤_, _%_, _+_};
+ghost use Prim.Native.Nat.{_<_, _≤_, _%_, _+_, min};
 ghost use Rattle.minutes.specs.Minutes.{E, within};
 ghost use Rattle.minutes.specs.First.{firstIn};
 
 // One past the last minute (E of document 01).
 pub const END: u32 = 210379680;
+
+// The earlier of two minutes.
+pub fn earlier(a: u32, b: u32) -> u32
+    ensures { λ r. ⌜ r ≡ min a b ⌝ }
+{
+    if a < b { a } else { b }
+}
 
 // begin ≤ t < end
 pub fn during(begin: u32, end: u32, t: u32) -> bool

@@ -1,0 +1,36 @@
+-- What the steps promise each other and the crates above, which no reader has to believe: how far what a record says at a minute stays so, and how far
+-- it repeats with the cycle.
+use Prim.Native.Nat.{ℕ, _+_, _*_, _≤_, _<_}
+use mathlib.Core.Path.{_≡_}
+use mathlib.Core.Bool.{Bool}
+use mathlib.Core.List.{List}
+use lib.ListN.{length}
+use Rattle.minutes.specs.Minutes.{E}
+use Rattle.minutes.specs.Stretch.{Stretch}
+use Rattle.hours.specs.Hours.{Hours, holds}
+use Rattle.hours.specs.HoursBytes.{pairsAt, hoursAt}
+use Rattle.hours.specs.HoursWell.{HoursWell}
+use Rattle.hours.specs.Inside.{pairsHold, holding}
+
+-- the record at `at` lies within the bytes, and is one that document 01 admits
+pub record RecordReady (s : List ℕ) (c at : ℕ) : Type 0 where
+  pub within : at + 10 + 4 * pairsAt s at ≤ length s
+  pub well : HoursWell c (hoursAt s at)
+
+-- `on` says whether phase x is in a pair of h, and each phase from x to before `stop` says the same
+pub record PhaseSpan (c : ℕ) (h : Hours) (x : ℕ) (on : Bool) (stop : ℕ) : Type 0 where
+  pub after : x < stop
+  pub in-cycle : stop ≤ c
+  pub is : (y : ℕ) → x ≤ y → y < stop → on ≡ pairsHold y h
+
+-- `on` says whether h holds at t; how far that stays so, and how far it repeats
+pub record RecordSpan (c : ℕ) (h : Hours) (t : ℕ) (on : Bool) (until era : ℕ) : Type 0 where
+  pub is : on ≡ holds c h t
+  pub stretch : Stretch (holds c h) c t until era
+
+-- the set has the numbers of the records that hold at t; how far it stays so, and how far it repeats
+pub record RecordsSpan (s : List ℕ) (c from h t set until era : ℕ) : Type 0 where
+  pub is : set ≡ holding s c from h t
+  pub stretch : Stretch (holding s c from h) c t until era
+  pub until-most : until ≤ E
+  pub era-most : era ≤ E
