@@ -1,3 +1,4 @@
 pub mod PolicyLaws
 pub mod QuestionOutcome
 pub mod NextUseLaws
+pub mod SteadyLaws

@@ -1,2 +1,4 @@
 pub mod Policy
 pub mod NextUse
+pub mod Steady
+pub mod Held
