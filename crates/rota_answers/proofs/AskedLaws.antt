@@ -22,7 +22,7 @@ use Rattle.rota.specs.declared.Layout.{Layout}
 use Rattle.rota.proofs.RotaFine.{RotaFine}
 use Rattle.rota.proofs.CountsLaws.{CountsAre}
 use Rattle.rota.proofs.LocatedLaws as located
-use Rattle.rota_answers.specs.Gathered.{RowsFine, RolesFine, rolesEnabled, rolesOfNumber, rolesAssigned, usersWith, questionRoles}
+use Rattle.rota_answers.specs.Gathered.{RowsFine, RolesFine, rolesEnabled, rolesOfNumber, rolesAssigned, usersWith, questionRoles, holdersBy}
 use Rattle.rota_answers.proofs.QuestionLaws.{through-is, holders-are, user-rows-of, permission-rows-of}
 
 module _ (s : List ℕ) (l : Layout) (w : Located s l) where
@@ -84,6 +84,14 @@ module _ (s : List ℕ) (l : Layout) (w : Located s l) where
     question-as u p a b c d e ea eb ec ed ee =
         ee ∙ ap₂ intersection (ed ∙ ap₂ intersection (enabled-as a ea) (rw (user-rows-at, counted .user-rows) at eb)) (rw (permission-rows-at, counted .permission-rows) at ec)
 
+    pub holders-as : (a b d e : ℕ) → a ≡ rolesEnabled s set (l .counts .roles)
+        → b ≡ rolesAssigned s set (l .«permission_rows_at») (l .counts .«permission_rows»)
+        → d ≡ intersection a b → e ≡ usersWith s set d (l .«user_rows_at») (l .counts .«user_rows») → e ≡ holdersBy s set
+    unfolding holdersBy
+    holders-as a b d e ea eb ed ee =
+        (rw (user-rows-at, counted .user-rows) at ee)
+        ∙ ap (λ (x : ℕ). usersWith s set x (userRowsAt s) (userRowsOf s)) (ed ∙ ap₂ intersection (enabled-as a ea) (rw (permission-rows-at, counted .permission-rows) at eb))
+
     pub held-as : (t : ℕ) → set ≡ holding s (l .counts .cycle) (l .«hours_at») (l .counts .hours) t → set ≡ holding s (cycleOf s) (headerLength s) (hoursOf s) t
     held-as t e = rw (counted .cycle, hours-at, counted .hours) at e
 
@@ -103,13 +111,9 @@ module _ (s : List ℕ) (l : Layout) (w : Located s l) where
       pub answer-yes : (u p x r : ℕ) → x ≡ questionRoles s set u p → Lowest x r → given (some r) ≡ given (answer (rotaOf s) u p t)
       answer-yes u p x r e z = ap given (sym (among u p (some r) (lowest-of _ _ x (roles-as u p x e) r z)))
 
-      pub holders-as : (a b d e : ℕ) → a ≡ rolesEnabled s set (l .counts .roles)
-          → b ≡ rolesAssigned s set (l .«permission_rows_at») (l .counts .«permission_rows»)
-          → d ≡ intersection a b → e ≡ usersWith s set d (l .«user_rows_at») (l .counts .«user_rows») → e ≡ holdersAt (policyOf (rotaOf s)) t
-      holders-as a b d e ea eb ed ee =
-          (rw (user-rows-at, counted .user-rows) at ee)
-          ∙ ap (λ (x : ℕ). usersWith s set x (userRowsAt s) (userRowsOf s)) (ed ∙ ap₂ intersection (enabled-as a ea) (rw (permission-rows-at, counted .permission-rows) at eb))
-          ∙ holders-are s t set (w .accepted) early (held-as t es)
+      pub holders-at : (x : ℕ) → x ≡ holdersBy s set → x ≡ holdersAt (policyOf (rotaOf s)) t
+      unfolding holdersBy
+      holders-at x e = e ∙ holders-are s t set (w .accepted) early (held-as t es)
 
   -- the numbers of a question are judged by the rota's own counts
   pub arguments-as : (u p t : ℕ) {n : ℕ} → n ≡ argumentsJudged (l .counts .users) (l .counts .permissions) u p t

@@ -51,3 +51,9 @@ unfoldable pub questionRoles : List ℕ → ℕ → ℕ → ℕ → ℕ
 questionRoles s set u p =
     intersection (intersection (rolesEnabled s set (rolesOf s)) (rolesOfNumber s set (userRowsAt s) (userRowsOf s) u))
     (rolesOfNumber s set (permissionRowsAt s) (permissionRowsOf s) p)
+
+-- the users to whom some row gives an enabled role that some row gives to a permission
+unfoldable pub holdersBy : List ℕ → ℕ → ℕ
+holdersBy s set =
+    usersWith s set (intersection (rolesEnabled s set (rolesOf s)) (rolesAssigned s set (permissionRowsAt s) (permissionRowsOf s))) (userRowsAt s)
+    (userRowsOf s)

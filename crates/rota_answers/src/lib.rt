@@ -14,7 +14,7 @@ ghost use Rattle.rota.specs.Rota.{answer, policyOf};
 ghost use Rattle.rota.specs.RotaBytes.{rotaOf, rolesOf, hoursOf, usersOf, rowAtByte};
 ghost use Rattle.rota.specs.RotaRefusals.{rotaJudged};
 ghost use Rattle.rota.specs.Inside.{Located};
-ghost use Rattle.rota_answers.specs.Gathered.{RowsFine, RolesFine, rolesOfNumber, rolesAssigned, rolesEnabled, usersWith, questionRoles};
+ghost use Rattle.rota_answers.specs.Gathered.{RowsFine, RolesFine, rolesOfNumber, rolesAssigned, rolesEnabled, usersWith, questionRoles, holdersBy};
 use hours::decode;
 use policy::Answer;
 use rota::Layout;
@@ -190,14 +190,13 @@ pub fn answer_in(s: &[u8], l: Layout, u: u32, p: u32, t: u32) -> Answer
     }
 }
 
-// The users who hold any permission of an accepted rota at a minute below E.
-pub fn holders_in(s: &[u8], l: Layout, t: u32) -> u64
-    requires { ⌜ Located (now s) l × (t < E) ⌝ }
-    ensures { λ r. ⌜ r ≡ holdersAt (policyOf (rotaOf (now (s .entry)))) t ⌝ }
+// The users who hold any permission of an accepted rota, by the set of the hours records that hold.
+pub fn holders_by(s: &[u8], l: Layout, set: u64) -> u64
+    requires { ⌜ Located (now s) l ⌝ }
+    ensures { λ r. ⌜ r ≡ holdersBy (now (s .entry)) set ⌝ }
 {
     let n = l.counts;
     let h = n.hours as usize;
-    let set = hours::holding_at(s, n.cycle, l.hours_at, h, t);
     let on = roles_enabled(s, h, set, l.roles_at, n.roles as usize);
     let given = roles_assigned(
         s,
@@ -209,6 +208,19 @@ pub fn holders_in(s: &[u8], l: Layout, t: u32) -> u64
     );
     let live = bitset::both(on, given);
     users_with(s, h, set, live, l.user_rows_at, n.user_rows as usize)
+}
+
+// The users who hold any permission of an accepted rota at a minute below E.
+pub fn holders_in(s: &[u8], l: Layout, t: u32) -> u64
+    requires { ⌜ Located (now s) l × (t < E) ⌝ }
+    ensures { λ r. ⌜ r ≡ holdersAt (policyOf (rotaOf (now (s .entry)))) t ⌝ }
+{
+    let n = l.counts;
+    holders_by(
+        s,
+        l,
+        hours::holding_at(s, n.cycle, l.hours_at, n.hours as usize, t),
+    )
 }
 
 // One question: the rota's refusal, 33, 34, 35, or the answer.
