@@ -1,7 +1,7 @@
 -- Who holds a permission throughout a stretch of minutes.
 --     steady-all                    with no minute it is everyone of the set
---     steady-join                   two stretches, one after the other
---     steady-fixed, steady-turn     a stretch in which the holders do not change, by itself and after another
+--     steady-join, steady-more      two stretches, one after the other
+--     steady-fixed                  a stretch in which the holders do not change
 --     steady-turned                 within an era one cycle is enough
 --     steady-over                   nobody is left
 -- Assumes nothing.
@@ -87,12 +87,14 @@ module _ (π : Policy) where
       (q .0, λ v y z. ⊎-elim (λ (d : v < x). q .1 v y d) (λ (d : x ≤ v). p .1 v d z) (lt-or-le v x)))
       (λ u k h g. steady-in _ x b u k (steady-in among a x u k h (λ v y z. g v y (omega arith))) (λ v y z. g v (omega arith) z))
 
+  pub steady-more : (among a x b : ℕ) {stays r : ℕ} → a ≤ x → x ≤ b → stays ≡ steadyOver π among a x → r ≡ steadyOver π stays x b
+      → r ≡ steadyOver π among a b
+  steady-more among a x b l m es er = er ∙ ap (λ (y : ℕ). steadyOver π y x b) es ∙ steady-join among a x b l m
+
   -- nobody is left at x
-  pub steady-over : (among a x b : ℕ) → a ≤ x → x ≤ b → 0 ≡ steadyOver π among a x → 0 ≡ steadyOver π among a b
-  steady-over among a x b l m e =
-      steady-is 0 x b 0 (pow-pos (π .users)) (λ u k h. clash _ h (has-none u)) (λ u k h g. h)
-      ∙ ap (λ (y : ℕ). steadyOver π y x b) e
-      ∙ steady-join among a x b l m
+  pub steady-over : (among a x b : ℕ) {stays : ℕ} → a ≤ x → x ≤ b → stays ≡ steadyOver π among a x → stays ≡ 0 → 0 ≡ steadyOver π among a b
+  steady-over among a x b l m es e =
+      steady-more among a x b l m (sym e ∙ es) (steady-is 0 x b 0 (pow-pos (π .users)) (λ u k h. clash _ h (has-none u)) (λ u k h g. h))
 
   holder : (v u : ℕ) → u < π .users → has (holdersAt π v) u ≡ holdsAny π v u
   unfolding holdersAt
@@ -113,20 +115,15 @@ module _ (π : Policy) where
         held-of : (x v : ℕ) → intersection x (holdersAt π v) ≡ setOf (π .users) (λ u. has x u && holdsAny π v u)
         held-of x v = unfold holdersAt in intersection-of (π .users) x (holdsAny π v) few
 
-    pub steady-turn : (among x stays r : ℕ) → x ≤ y → stays ≡ steadyOver π among x y → r ≡ intersection stays set → r ≡ steadyOver π among x z
-    steady-turn among x stays r l es er =
-        steady-fixed stays r er
-        ∙ ap (λ (w : ℕ). steadyOver π w y z) es
-        ∙ steady-join among x y z l (omega arith)
-
   -- from x, of which the stretch is known, to before e
-  pub steady-turned : (c x set until era e among : ℕ) → 0 < c → HeldAt π c x set until era → e ≤ era
-      → steadyOver π among x (min e (x + c)) ≡ steadyOver π among x e
-  steady-turned c x set until era e among pos h l =
-      steady-is among x e _ (steady-small among x _)
-      (λ u k g. let p = steady-out among x _ u k g in (
+  pub steady-turned : (c x set until era e among : ℕ) {stays y : ℕ} → 0 < c → HeldAt π c x set until era → e ≤ era → y ≡ min e (x + c)
+      → stays ≡ steadyOver π among x y → stays ≡ steadyOver π among x e
+  steady-turned c x set until era e among {stays} {y} pos h l ey es =
+      es
+      ∙ steady-is among x e _ (steady-small among x y)
+      (λ u k g. let p = steady-out among x y u k g in (
         p .0,
-        λ v y z. sym (holder v u k) ∙ turned (holdersAt π) c x e pos (λ w m n. h .stretch .turns w m (omega arith)) (λ w. has w u ≡ true)
-            (λ w m n r. holder w u k ∙ p .1 w m (omega arith)) v y z,
+        λ v a b. sym (holder v u k) ∙ turned (holdersAt π) c x e pos (λ w m n. h .stretch .turns w m (omega arith)) (λ w. has w u ≡ true)
+            (λ w m n r. holder w u k ∙ p .1 w m (omega arith)) v a b,
       ))
-      (λ u k g f. steady-in among x _ u k g (λ v y z. f v y (omega arith)))
+      (λ u k g f. steady-in among x y u k g (λ v a b. f v a (omega arith)))
