@@ -6,7 +6,7 @@
 --     has-insert .. has-difference        members of each operation
 --     ones-count                          the language's count is the number of members
 --     member-in, member-out               a set given by a test is not empty; some-member: any set that is not empty
---     setOf-none, turn-in, turn-out       a loop that gathers a set
+--     setOf-none, turn-in, turn-out       a loop that gathers a set; setOf-more: one number more, whichever way it goes
 -- Assumes nothing.
 use mathlib.Core.Path.{_≡_, refl, sym, ap, ap₂, _∙_, subst}
 use mathlib.Core.Bool.{Bool, true, false, _&&_, _||_, not, or-true, or-false}
@@ -20,6 +20,7 @@ use lib.Pow.{pow-pos, pow-lt, pow-mono, shr-shr, shl-exact}
 use lib.Bits.{bitAnd, bitOr, and-le-l, and-shr, or-shr, and-mod, or-mod, or-lt}
 use lib.Count.{ones, ones-step}
 use borrow.Author.Tests.{eq-eqb, ne-eqb, eqb-true, eqb-false, lt-ltb, le-ltb, ltb-true, ltb-false, not-true}
+use Rattle.ground.specs.Choice.{pick}
 use Rattle.ground.specs.Search.{one, anyBelow, countBelow}
 use Rattle.ground.proofs.BoolLaws.{ltb-iff, T-ext, eq→T, clash}
 use Rattle.ground.proofs.SearchLaws.{any-stop, any-out, any-no}
@@ -232,16 +233,20 @@ pub union-nothing : (x : ℕ) → x < 2 ^ 64 → x ≡ union x 0
 unfolding union
 union-nothing x h = setOf-has 64 x (λ j. has x j || has 0 j) h (λ j l. sym (or-false (has x j)) ∙ ap (λ (b : Bool). has x j || b) (sym (has-none j)))
 
--- two sets given by tests
-in-both : (l f g : Bool) → ((l && f) && (l && g)) ≡ (l && (f && g))
-in-both true f g = refl
-in-both false f g = refl
+-- the members of a set that pass a test, and two sets given by tests
+and-turn : (a l f : Bool) → (a && (l && f)) ≡ (l && (a && f))
+and-turn true l f = refl
+and-turn false true f = refl
+and-turn false false f = refl
+
+pub intersection-of : (n x : ℕ) (f : ℕ → Bool) → n ≤ 64 → intersection x (setOf n f) ≡ setOf n (λ i. has x i && f i)
+unfolding intersection
+intersection-of n x f l =
+    sym (setOf-has 64 _ _ (fits-64 n _ l)
+    (λ j m. has-setOf n _ j ∙ sym (ap (λ (b : Bool). has x j && b) (has-setOf n f j) ∙ and-turn (has x j) (ltb j n) (f j))))
 
 pub intersection-setOf : (n : ℕ) (f g : ℕ → Bool) → n ≤ 64 → intersection (setOf n f) (setOf n g) ≡ setOf n (λ i. f i && g i)
-unfolding intersection
-intersection-setOf n f g l =
-    sym (setOf-has 64 _ _ (fits-64 n _ l)
-    (λ j m. has-setOf n _ j ∙ sym (ap₂ _&&_ (has-setOf n f j) (has-setOf n g j) ∙ in-both (ltb j n) (f j) (g j))))
+intersection-setOf n f g l = intersection-of n (setOf n f) g l ∙ setOf-same n _ _ (λ i m. ap (λ (b : Bool). b && g i) (has-below n f i m))
 
 -- ---- counts
 count-same : (k : ℕ) (f g : ℕ → Bool) → ((i : ℕ) → i < k → f i ≡ g i) → countBelow k f ≡ countBelow k g
@@ -338,6 +343,13 @@ module _ (i : ℕ) (f : ℕ → Bool) (l : i < 64) where
   setOf-out e =
       ext 64 _ _ (fits-64 (i + 1) f (omega arith)) (fits-64 i f (omega arith))
       (λ j m. more-has j ∙ out-case (ltb j i) (eqb j i) (f j) (at-i false e j) ∙ sym (has-setOf i f j))
+
+  pub setOf-more : setOf (i + 1) f ≡ pick (f i) (insert (setOf i f) i) (setOf i f)
+  setOf-more = go (f i) refl
+    where
+      go : (b : Bool) → f i ≡ b → setOf (i + 1) f ≡ pick b (insert (setOf i f) i) (setOf i f)
+      go true e = setOf-in e
+      go false e = setOf-out e
 
   module _ (x y : ℕ) (t : Bool) (ex : x ≡ setOf i f) (et : t ≡ f i) where
     pub turn-in : t ≡ true → y ≡ insert x i → y ≡ setOf (i + 1) f

@@ -18,8 +18,8 @@ use Rattle.ground.specs.Choice.{pick}
 use Rattle.ground.specs.Judgement.{inTurn}
 use Rattle.ground.proofs.BoolLaws.{lt-or-le}
 use Rattle.ground.proofs.SearchLaws.{any-none-of}
-use Rattle.bitset.specs.Sets.{insert, setOf}
-use Rattle.bitset.proofs.SetLaws.{setOf-none, setOf-in, setOf-out}
+use Rattle.bitset.specs.Sets.{insert}
+use Rattle.bitset.proofs.SetLaws.{setOf-none, setOf-more}
 use Rattle.minutes.specs.Minutes.{E, within}
 use Rattle.minutes.proofs.StretchLaws.{stretch-both, stretch-of, phase-on}
 use Rattle.hours.specs.Hours.{Hours, holds}
@@ -183,14 +183,6 @@ module _ (c : ℕ) (h : Hours) (t : ℕ) where
           inside v (omega arith) (omega arith) ∙ sym (p .is (v % c) (omega arith) (omega arith))
 
 -- ---- records
--- a set with one number more to decide
-one-more : (k : ℕ) (f : ℕ → Bool) → k < 64 → setOf (k + 1) f ≡ pick (f k) (insert (setOf k f) k) (setOf k f)
-one-more k f l = go (f k) refl
-  where
-    go : (b : Bool) → f k ≡ b → setOf (k + 1) f ≡ pick b (insert (setOf k f) k) (setOf k f)
-    go true e = setOf-in k f l e
-    go false e = setOf-out k f l e
-
 -- the walk is past k of the h records, whose stretch is known
 pub record Spanned (s : List ℕ) (c from h t set until era at k : ℕ) : Type 0 where
   pub passed : Passed s from h k at
@@ -222,7 +214,7 @@ module _ {s : List ℕ} {c from h t set until era at k : ℕ} (w : Spanned s c f
   more : k < 64 → (v : ℕ) → holding s c from (k + 1) v ≡ pick (holds c (hoursAt s at) v) (insert (holding s c from k v) k) (holding s c from k v)
   unfolding holding recordsThat
   more l v =
-      one-more k _ l
+      setOf-more k _ l
       ∙ ap (λ (i : ℕ). pick (holds c (hoursAt s i) v) (insert (holding s c from k v) k) (holding s c from k v)) (sym (w .passed .here))
 
   pub spans-more : {on : Bool} {until′ era′ set₁ until₁ era₁ at₁ : ℕ} → k < h → h ≤ 64 → RecordSpan c (hoursAt s at) t on until′ era′

@@ -12,28 +12,16 @@ use mathlib.Core.Bool.{Bool, true, false, not, _&&_}
 use native.Mathlib.Nat.{le-refl}
 use native.Mathlib.Omega.{arith}
 use borrow.Author.Tests.{le-leb, leb-true, not-true}
-use lib.Dec.{leb, ltb}
+use lib.Dec.{leb}
 use lib.Pow.{pow-pos}
 use Rattle.ground.proofs.BoolLaws.{and-yes, and-both, eq-ext, clash, lt-or-le}
 use Rattle.ground.proofs.SearchLaws.{any-no, any-none-of}
 use Rattle.bitset.specs.Sets.{has, setOf, intersection}
-use Rattle.bitset.proofs.SetLaws.{setOf-has, setOf-lt, fits-64, setOf-same, has-below, has-none, has-setOf, ext}
+use Rattle.bitset.proofs.SetLaws.{setOf-has, setOf-lt, setOf-same, has-below, has-none, intersection-of}
 use Rattle.minutes.proofs.StretchLaws.{turned}
 use Rattle.policy.specs.Policy.{Policy, holdsAny, holdersAt}
 use Rattle.policy.specs.Steady.{lapses, steadyOver}
 use Rattle.policy.specs.Held.{HeldAt}
-
--- of a set, those below n that pass
-intersection-of : (n x : ℕ) (f : ℕ → Bool) → n ≤ 64 → intersection x (setOf n f) ≡ setOf n (λ i. has x i && f i)
-unfolding intersection
-intersection-of n x f l =
-    ext 64 _ _ (setOf-lt 64 _) (fits-64 n _ l)
-    (λ i m. has-below 64 _ i m ∙ ap (λ (b : Bool). has x i && b) (has-setOf n f i) ∙ turn (has x i) (ltb i n) (f i) ∙ sym (has-setOf n _ i))
-  where
-    turn : (a b c : Bool) → (a && (b && c)) ≡ (b && (a && c))
-    turn true b c = refl
-    turn false true c = refl
-    turn false false c = refl
 
 module _ (π : Policy) where
   -- user u holds a permission at each minute from a to before b
