@@ -1,5 +1,6 @@
 -- The rows of one source role of an accepted table, divided by a minute.
 --     reached-no, reached-over, reached-phase    whether a row is reached, by the tests of the code
+--     reached-out, reached-not                   what it says that a row is reached, and that it is not
 --     rising                                     those that are reached come first
 --     only                                       the last of them is the only row that can cover the minute
 -- Assumes nothing.
@@ -13,7 +14,7 @@ use native.Mathlib.Omega.{arith}
 use lib.Dec.{leb}
 use borrow.Author.Tests.{leb-true, le-leb, lt-leb}
 use Rattle.ground.specs.Partition.{Partitioned, PartitionPoint}
-use Rattle.ground.proofs.BoolLaws.{and-yes, and-both, or-yes, clash}
+use Rattle.ground.proofs.BoolLaws.{and-yes, and-both, or-yes, clash, lt-or-le}
 use Rattle.minutes.specs.Minutes.{Window, covers}
 use Rattle.minutes.proofs.WindowLaws.{In, covers-in}
 use Rattle.table.specs.TableBytes.{cycleOf, derivedOf, rowsOf, rowOf}
@@ -30,11 +31,20 @@ module _ (w : Window) (t x : ℕ) where
   reached-in b (inl e) = and-both _ _ (le-leb _ _ b) (rw (le-leb (w .end) t e) refl)
   reached-in b (inr o) = and-both _ _ (le-leb _ _ b) (rw (le-leb (w .offset) x o) (or-true (leb (w .end) t)))
 
-  reached-out : reached w t x ≡ true → (w .begin ≤ t) × ((w .end ≤ t) ⊎ (w .offset ≤ x))
+  pub reached-out : reached w t x ≡ true → (w .begin ≤ t) × ((w .end ≤ t) ⊎ (w .offset ≤ x))
   unfolding reached
   reached-out h =
       let a = and-yes _ _ h in
       (leb-true _ _ (a .0), ⊎-elim (λ k. inl (leb-true _ _ k)) (λ k. inr (leb-true _ _ k)) (or-yes _ _ (a .1)))
+
+  pub reached-not : reached w t x ≡ false → (t < w .begin) ⊎ ((t < w .end) × (x < w .offset))
+  reached-not h =
+      ⊎-elim
+      (λ (b : t < w .begin). inl b)
+      (λ (b : w .begin ≤ t).
+      inr
+      (lt-of-not-le (λ (e : w .end ≤ t). clash _ (reached-in b (inl e)) h), lt-of-not-le (λ (o : w .offset ≤ x). clash _ (reached-in b (inr o)) h)))
+      (lt-or-le t (w .begin))
 
   pub reached-no : t < w .begin → false ≡ reached w t x
   unfolding reached

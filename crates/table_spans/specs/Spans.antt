@@ -3,7 +3,9 @@
 use Prim.Native.Nat.{ℕ, _+_, _*_, _%_, _≤_, _<_}
 use mathlib.Core.Path.{_≡_}
 use mathlib.Core.List.{List}
-use lib.Dec.{leb}
+use mathlib.Core.Bool.{_&&_}
+use lib.Dec.{leb, ltb}
+use Rattle.ground.specs.Choice.{pick}
 use Rattle.ground.specs.From.{firstFrom}
 use Rattle.ground.specs.Partition.{PartitionPoint}
 use Rattle.minutes.specs.Minutes.{E, covers}
@@ -33,6 +35,14 @@ pub record Divided (s : List ℕ) (lo hi t x k : ℕ) : Type 0 where
   pub early : t < E
   pub phase : x ≡ t % cycleOf s
   pub point : PartitionPoint (reachedAt s (16 + 17 * derivedOf s) t x) lo hi k
+
+-- every row from lo to before k is over at minute t
+pub record Over (s : List ℕ) (lo k t : ℕ) : Type 0 where
+  pub over : (i : ℕ) → lo ≤ i → i < k → rowOf s i .window .end ≤ t
+
+-- the phase at which row k begins, where it is before row hi and its dates have begun at minute t, else the cycle's end
+unfoldable pub nextOffset : List ℕ → ℕ → ℕ → ℕ → ℕ
+nextOffset s k hi t = pick (ltb k hi && leb (rowOf s k .window .begin) t) (rowOf s k .window .offset) (cycleOf s)
 
 -- of the rows lo to before hi `row` covers minute t, or none where it is hi; before `until` that stays so, and before `era` it goes by the cycle
 pub record SpanIs (s : List ℕ) (lo hi t row until era : ℕ) : Type 0 where
