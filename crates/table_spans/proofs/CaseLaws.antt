@@ -4,6 +4,9 @@
 --     last-over, none-over                    every row that is reached is over
 --     before-row, before-dates, after-all     then: in the dates of the next row, before them, and no row is left
 --     next-there, next-late, next-none        the phase at which the next row begins; next-past: it is after that of t
+--     .. -read, reach- ..                     the same by the window that was read
+--     parts, rows-inside                      the rows can be searched, and
+--     divided-last, divided-none              the search gives such a k, by whether some row is reached
 -- Assumes nothing.
 use Prim.Native.Nat.{ℕ, _+_, _-_, _*_, _%_, _≤_, _<_, min}
 use mathlib.Core.Path.{_≡_, refl, sym, _∙_, ap, subst}
@@ -13,19 +16,21 @@ use mathlib.Core.List.{List}
 use native.Mathlib.Nat.{le-refl, mod-lt, eq-or-lt-of-le}
 use native.Mathlib.Omega.{arith}
 use borrow.Author.Tests.{lt-ltb, le-ltb, le-leb, lt-leb}
-use Rattle.ground.specs.Partition.{PartitionPoint}
+use lib.ListN.{length}
+use Rattle.ground.specs.Partition.{Partitioned, PartitionPoint}
 use Rattle.ground.proofs.BoolLaws.{lt-or-le}
 use Rattle.minutes.specs.Stretch.{Stretch}
 use Rattle.rows.specs.Rows.{reachedAt}
 use Rattle.minutes.specs.Minutes.{E, Window}
 use Rattle.minutes.proofs.WindowLaws.{In, covers-in, in-covers}
-use Rattle.table.specs.TableBytes.{cycleOf, rowsOf, rowOf}
-use Rattle.table.specs.TableRefusals.{sourceOf}
+use Rattle.table.specs.TableBytes.{cycleOf, derivedOf, rowsOf, rowOf}
+use Rattle.table.specs.Inside.{Opened}
+use Rattle.table.specs.declared.Counts.{Counts}
+use Rattle.table.proofs.HeaderLaws.{counts-are}
 use Rattle.table.proofs.FineLaws.{RowAlone, table-fine}
-use Rattle.table.specs.TableBytes.{derivedOf}
 use Rattle.table.proofs.RowsLaws.{RowAfter}
 use Rattle.table.proofs.TableTheorems.{in-order}
-use Rattle.rows.proofs.ReachedLaws.{reached-out, reached-not, only}
+use Rattle.rows.proofs.ReachedLaws.{reached-out, reached-not, rising, only}
 use Rattle.table_spans.specs.Spans.{OneRole, Divided, Over, nextOffset, rowAt, SpanIs}
 use Rattle.table_spans.proofs.SpanLaws.{covering, at-row, at-none, idle-stretch, era-stretch}
 
@@ -273,3 +278,90 @@ module _ (s : List ℕ) (lo hi t x k : ℕ) (v : Divided s lo hi t x k) where
 
   pub none-over : k ≤ lo → Over s lo k t
   none-over l = record { over = λ i p q. absurd (omega arith) }
+
+-- ---- by the window that was read
+module _ (s : List ℕ) (k hi t : ℕ) (l : k < hi) (w : Window) (ew : w ≡ window s k) where
+  pub offset-read : w .begin ≤ t → w .offset ≡ nextOffset s k hi t
+  offset-read b = ap (λ (y : Window). y .offset) ew ∙ next-there s k hi t l (omega (arith, ap (λ (y : Window). y .begin) ew))
+
+module _ (s : List ℕ) (n : Counts) (o : Opened s n) (k hi t : ℕ) where
+  pub late-read : k < hi → (w : Window) → w ≡ window s k → t < w .begin → n .cycle ≡ nextOffset s k hi t
+  late-read l w ew b = counts-are s n (o .counts) .cycle ∙ next-late s k hi t l (omega (arith, ap (λ (y : Window). y .begin) ew))
+
+  pub none-read : hi ≤ k → n .cycle ≡ nextOffset s k hi t
+  none-read l = counts-are s n (o .counts) .cycle ∙ next-none s k hi t l
+
+cycle-top : (s : List ℕ) (lo hi t x k : ℕ) → Divided s lo hi t x k → cycleOf s ≤ 40320
+cycle-top s lo hi t x k v = table-fine s (v .clear) .header .cycle-most
+
+pub row-there : (s : List ℕ) (n : Counts) → Opened s n → (lo hi t x k : ℕ) → Divided s lo hi t x k → (hi ≤ n .rows) × (k ≤ hi)
+row-there s n o lo hi t x k v = let e = counts-are s n (o .counts) .rows in (omega (arith, v .rows .most), v .point .to)
+
+-- the window of row j, the last that is reached, in whose dates t lies
+module _ (s : List ℕ) (lo hi t x j : ℕ) (v : Divided s lo hi t x (j + 1)) (jl : lo ≤ j) (w : Window) (ew : w ≡ window s j) where
+  pub reach-stop : x < w .offset + w .length → (t < E) × (x < w .offset + w .length) × (w .offset + w .length ≤ 40320)
+  reach-stop l =
+      let f : window s j .offset + window s j .length ≤ cycleOf s = fine s lo hi t x (j + 1) v j (omega (arith, v .point .to)) .in-cycle in
+      let e = ap (λ (y : Window). y .offset + y .length) ew in
+      (v .early, l, omega (arith, cycle-top s lo hi t x (j + 1) v))
+
+  pub reach-next : (d : ℕ) → d ≡ nextOffset s (j + 1) hi t → (t < E) × (x < d) × (d ≤ 40320)
+  reach-next d e = let z = next-past s lo hi t x (j + 1) v d e in (v .early, z .0, omega (arith, cycle-top s lo hi t x (j + 1) v))
+
+  pub covered-read : t < w .end → x < w .offset + w .length → (u : ℕ) → u ≡ min (t + (w .offset + w .length - x)) (w .end) → SpanIs s lo hi t j u (w .end)
+  covered-read =
+      subst
+      (λ (y : Window). t < y .end → x < y .offset + y .length → (u : ℕ) → u ≡ min (t + (y .offset + y .length - x)) (y .end) → SpanIs s lo hi t j u (y .end))
+      (sym ew) (is-covered s lo hi t x (j + 1) v j refl jl)
+
+  pub between-read : t < w .end → w .offset + w .length ≤ x → (d u : ℕ) → d ≡ nextOffset s (j + 1) hi t → u ≡ min (t + (d - x)) (w .end)
+      → SpanIs s lo hi t hi u (w .end)
+  between-read =
+      subst
+      (λ (y : Window). t < y .end → y .offset + y .length ≤ x → (d u : ℕ) → d ≡ nextOffset s (j + 1) hi t → u ≡ min (t + (d - x)) (y .end)
+      → SpanIs s lo hi t hi u (y .end))
+      (sym ew) (between-rows s lo hi t x (j + 1) v j refl jl)
+
+  pub over-read : w .end ≤ t → Over s lo (j + 1) t
+  over-read l = last-over s lo hi t x (j + 1) v j refl (omega (arith, ap (λ (y : Window). y .end) ew))
+
+-- that of row k, the first that is not
+module _ (s : List ℕ) (lo hi t x k : ℕ) (v : Divided s lo hi t x k) (o : Over s lo k t) (l : k < hi) (w : Window) (ew : w ≡ window s k) where
+  pub dates-read : t < w .begin → SpanIs s lo hi t hi (w .begin) (w .begin)
+  dates-read = subst (λ (y : Window). t < y .begin → SpanIs s lo hi t hi (y .begin) (y .begin)) (sym ew) (before-dates s lo hi t x k v o l)
+
+  pub row-read : w .begin ≤ t → (u : ℕ) → u ≡ min (t + (w .offset - x)) (w .end) → SpanIs s lo hi t hi u (w .end)
+  row-read =
+      subst (λ (y : Window). y .begin ≤ t → (u : ℕ) → u ≡ min (t + (y .offset - x)) (y .end) → SpanIs s lo hi t hi u (y .end)) (sym ew)
+      (before-row s lo hi t x k v o l)
+
+  pub reach-row : w .begin ≤ t → (t < E) × (x < w .offset) × (w .offset ≤ 40320)
+  reach-row b =
+      let e = ap (λ (y : Window). y .offset) ew in
+      let z = waiting s lo hi t x k v k (le-refl k) l (omega (arith, ap (λ (y : Window). y .begin) ew)) in
+      (v .early, omega arith, omega (arith, cycle-top s lo hi t x k v, fine s lo hi t x k v k l .in-cycle))
+
+-- ---- the search gives the division
+module _ (s : List ℕ) (n : Counts) (o : Opened s n) (lo hi : ℕ) (g : OneRole s lo hi) (t x : ℕ) (ex : x ≡ t % n .cycle) where
+  pub parts : Partitioned (reachedAt s (16 + 17 * n .derived) t x) lo hi
+  parts = rw (counts-are s n (o .counts) .derived) (rising s (o .clear) lo hi (g .most) (g .one) t x)
+
+  pub rows-inside : 16 + 17 * n .derived + 16 * hi ≤ length s
+  rows-inside =
+      let e = counts-are s n (o .counts) in
+      omega (arith, e .derived, g .most, table-fine s (o .clear) .header .whole)
+
+  divided : t < E → (k : ℕ) → PartitionPoint (reachedAt s (16 + 17 * n .derived) t x) lo hi k → Divided s lo hi t x k
+  divided l k p =
+      let e = counts-are s n (o .counts) in
+      record { clear = o .clear; rows = g; early = l; phase = ex ∙ ap (λ (c : ℕ). t % c) (e .cycle); point = rw (e .derived) at p }
+
+  -- some row is reached, and none is
+  pub divided-last : t < E → (k : ℕ) → PartitionPoint (reachedAt s (16 + 17 * n .derived) t x) lo hi k → lo < k
+      → Divided s lo hi t x (k - 1 + 1) × (lo ≤ k - 1)
+  divided-last l k p m =
+      let e : k ≡ k - 1 + 1 = omega arith in
+      (subst (λ (y : ℕ). Divided s lo hi t x y) e (divided l k p), omega arith)
+
+  pub divided-none : t < E → (k : ℕ) → PartitionPoint (reachedAt s (16 + 17 * n .derived) t x) lo hi k → k ≤ lo → Divided s lo hi t x k × Over s lo k t
+  divided-none l k p m = let v = divided l k p in (v, none-over s lo hi t x k v m)

@@ -15,7 +15,7 @@ use Rattle.ground.specs.Partition.{Partitioned, PartitionPoint}
 use Rattle.ground.proofs.BoolLaws.{lt-or-le, clash}
 use Rattle.ground.proofs.FromLaws.{IsFirst, first-is, is-first}
 use Rattle.endian.specs.Numbers.{u8At, u32At}
-use Rattle.table.specs.TableBytes.{rowsOf, entryOf, rowOf}
+use Rattle.table.specs.TableBytes.{rowsOf, rowAtByte, entryOf, rowOf}
 use Rattle.table.specs.TableRefusals.{sourceOf}
 use Rattle.table.specs.Inside.{Opened}
 use Rattle.table.specs.declared.Counts.{Counts}
@@ -64,6 +64,11 @@ module _ (s : List ℕ) (from r : ℕ) where
 pub source-place : (s : List ℕ) (n : Counts) → Opened s n → (i e : ℕ) → e ≡ 16 + 17 * u32At s (16 + 17 * n .derived + 16 * i) → u8At s e ≡ sourceOf s i
 unfolding rowOf entryOf
 source-place s n o i e ee = ap (u8At s) (rw (counts-are s n (o .counts) .derived) at ee)
+
+-- the window of row i
+pub window-place : (s : List ℕ) (n : Counts) → Opened s n → (i : ℕ) → rowAtByte s (16 + 17 * n .derived + 16 * i) .window ≡ rowOf s i .window
+unfolding rowOf
+window-place s n o i = ap (λ (d : ℕ). rowAtByte s (16 + 17 * d + 16 * i) .window) (counts-are s n (o .counts) .derived)
 
 -- what the search over the rows finds, of the counts that were read
 pub role-most : (s : List ℕ) (n : Counts) → Opened s n → (from r k : ℕ) → k ≡ roleFrom s from r → k ≤ n .rows

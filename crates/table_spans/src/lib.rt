@@ -1,10 +1,11 @@
 // The rows of one source role of an accepted table at a minute: the row that covers it, and how far that stays so.
 ghost use mathlib.Core.Path.{_≡_};
-ghost use Prim.Native.Nat.{_+_, _*_, _≤_, _<_};
-ghost use Rattle.table.specs.TableBytes.{rowsOf, rowOf};
+ghost use Prim.Native.Nat.{_+_, _-_, _≤_, _<_, min};
+ghost use Rattle.minutes.specs.Minutes.{E};
+ghost use Rattle.table.specs.TableBytes.{rowOf};
 ghost use Rattle.table.specs.TableRefusals.{sourceOf};
 ghost use Rattle.table.specs.Inside.{Opened, windowGiven};
-ghost use Rattle.table_spans.specs.Spans.{roleFrom, OneRole};
+ghost use Rattle.table_spans.specs.Spans.{roleFrom, OneRole, Divided, Over, nextOffset, SpanIs};
 use table::Counts;
 use table::Window;
 
@@ -53,4 +54,114 @@ pub fn role_begins(s: &[u8], n: Counts, role: usize) -> RoleRows
         lo: lo,
         hi: role_from(s, n, lo, role + 1),
     }
+}
+
+// Of some rows the one that covers a minute, or one past the last; before `until` that stays so, and before `era` it goes by the cycle.
+pub struct Span {
+    pub row: usize,
+    pub until: u32,
+    pub era: u32,
+}
+
+// The window of row i.
+pub fn row_window(s: &[u8], n: Counts, i: usize) -> Window
+    requires { ⌜ Opened (now s) n × (i < n .rows) ⌝ }
+    ensures { λ r. ⌜ windowGiven r ≡ rowOf (now (s .entry)) i .window ⌝ }
+{
+    table::read_window(s, 16 + 17 * (n.derived as usize) + 16 * i)
+}
+
+// The phase at which row k begins, where it is before row hi and its dates have begun at minute t, else the cycle's end.
+fn next_offset(s: &[u8], n: Counts, k: usize, hi: usize, t: u32) -> u32
+    requires { ⌜ Opened (now s) n × (hi ≤ n .rows) ⌝ }
+    ensures { λ r. ⌜ r ≡ nextOffset (now (s .entry)) k hi t ⌝ }
+{
+    if k < hi {
+        let w = row_window(s, n, k);
+        if w.begin <= t {
+            return w.offset as u32;
+        }
+    }
+    n.cycle
+}
+
+// From minute t, whose phase is x, the minute of phase d of the same turn of the cycle, or `end` where that is earlier.
+fn ahead(t: u32, x: u32, d: u32, end: u32) -> u32
+    requires { ⌜ (t < E) × (x < d) × (d ≤ 40320) ⌝ }
+    ensures { λ r. ⌜ r ≡ min (t + (d - x)) end ⌝ }
+{
+    let m = t + (d - x);
+    if m < end { m } else { end }
+}
+
+// Row j is the last that is reached at minute t, and t lies in its dates; its window is w.
+fn span_within(s: &[u8], n: Counts, of: RoleRows, t: u32, x: u32, j: usize, w: Window) -> Span
+    requires { ⌜ Opened (now s) n × Divided (now s) (of .lo) (of .hi) t x (j + 1) × (of .lo ≤ j) × (windowGiven w ≡ rowOf (now s) j .window) × (t < w .end) ⌝ }
+    ensures { λ r. ⌜ SpanIs (now (s .entry)) (of .lo) (of .hi) t (r .row) (r .until) (r .era) ⌝ }
+{
+    let stop = w.offset as u32 + w.length as u32;
+    if x < stop {
+        return Span {
+            row: j,
+            until: ahead(t, x, stop, w.end),
+            era: w.end,
+        };
+    }
+    Span {
+        row: of.hi,
+        until: ahead(t, x, next_offset(s, n, j + 1, of.hi, t), w.end),
+        era: w.end,
+    }
+}
+
+// Every row that is reached at minute t is over; k is the first that is not reached.
+fn span_outside(s: &[u8], n: Counts, of: RoleRows, t: u32, x: u32, k: usize) -> Span
+    requires { ⌜ Opened (now s) n × Divided (now s) (of .lo) (of .hi) t x k × Over (now s) (of .lo) k t ⌝ }
+    ensures { λ r. ⌜ SpanIs (now (s .entry)) (of .lo) (of .hi) t (r .row) (r .until) (r .era) ⌝ }
+{
+    if of.hi <= k {
+        return Span {
+            row: of.hi,
+            until: minutes::END,
+            era: minutes::END,
+        };
+    }
+    let w = row_window(s, n, k);
+    if t < w.begin {
+        return Span {
+            row: of.hi,
+            until: w.begin,
+            era: w.begin,
+        };
+    }
+    Span {
+        row: of.hi,
+        until: ahead(t, x, w.offset as u32, w.end),
+        era: w.end,
+    }
+}
+
+// Row j is the last that is reached at minute t.
+fn span_after(s: &[u8], n: Counts, of: RoleRows, t: u32, x: u32, j: usize) -> Span
+    requires { ⌜ Opened (now s) n × Divided (now s) (of .lo) (of .hi) t x (j + 1) × (of .lo ≤ j) ⌝ }
+    ensures { λ r. ⌜ SpanIs (now (s .entry)) (of .lo) (of .hi) t (r .row) (r .until) (r .era) ⌝ }
+{
+    let w = row_window(s, n, j);
+    if t < w.end {
+        return span_within(s, n, of, t, x, j, w);
+    }
+    span_outside(s, n, of, t, x, j + 1)
+}
+
+// Of the rows of one role the one that covers minute t, and how far that stays so.
+pub fn role_span(s: &[u8], n: Counts, of: RoleRows, t: u32) -> Span
+    requires { ⌜ Opened (now s) n × OneRole (now s) (of .lo) (of .hi) × (t < E) ⌝ }
+    ensures { λ r. ⌜ SpanIs (now (s .entry)) (of .lo) (of .hi) t (r .row) (r .until) (r .era) ⌝ }
+{
+    let x = minutes::phase(n.cycle, t);
+    let k = rows::split(s, 16 + 17 * (n.derived as usize), of.lo, of.hi, t, x);
+    if of.lo < k {
+        return span_after(s, n, of, t, x, k - 1);
+    }
+    span_outside(s, n, of, t, x, k)
 }
