@@ -1,4 +1,5 @@
 -- Who holds a permission in an accepted table: the users of every row that covers the minute.
+--     row-has                               the users of one row at a minute
 --     holders-are                           the set that is asked for, by the rows
 --     gather-none, gather-more, gather-all  the loop over the rows
 -- Assumes nothing.
@@ -38,7 +39,7 @@ pick-has true x u = refl
 pick-has false x u = has-none u
 
 module _ (s : List ℕ) (f : TableFine s) (t : ℕ) where
-  row-has : (u i : ℕ) → rowHas s t u i ≡ (covering s t i && has (owned s i .users) u)
+  pub row-has : (u i : ℕ) → rowHas s t u i ≡ (covering s t i && has (owned s i .users) u)
   unfolding rowUsers rowOf
   row-has u i = pick-has (covering s t i) (owned s i .users) u
 
