@@ -20,8 +20,8 @@ use Rattle.ground.proofs.BoolLaws.{lt-or-le}
 use Rattle.ground.proofs.SearchLaws.{any-none-of}
 use Rattle.bitset.specs.Sets.{insert}
 use Rattle.bitset.proofs.SetLaws.{setOf-none, setOf-more}
-use Rattle.minutes.specs.Minutes.{E, within}
-use Rattle.minutes.proofs.StretchLaws.{stretch-both, stretch-of, phase-on}
+use Rattle.minutes.specs.Minutes.{E}
+use Rattle.minutes.proofs.StretchLaws.{stretch-both, stretch-of, stretch-constant, phase-on}
 use Rattle.hours.specs.Hours.{Hours, holds}
 use Rattle.hours.specs.HoursBytes.{offsetAt, lengthAt, pairAt, pairsAt, hoursAt, pairsBefore}
 use Rattle.hours.specs.HoursRefusals.{earliest, recordJudged}
@@ -128,37 +128,19 @@ module _ (c : ℕ) (h : Hours) (t : ℕ) where
   unfolding datesHold
   inside v l m = holds-parts c h v ∙ rw (le-leb _ _ l, lt-ltb _ _ m) refl
 
-  pub span-before : (b : ℕ) → b ≡ h .begin → t < b → RecordSpan c h t false b b
-  span-before b e l =
+  -- where it does not hold up to minute n
+  never-to : (n : ℕ) → t < n → ((v : ℕ) → t ≤ v → v < n → (v < h .begin) ⊎ (h .end ≤ v)) → RecordSpan c h t false n n
+  never-to n l k =
       record {
-        is = sym (no t l);
-        stretch =
-            record {
-              after = l;
-              fixed = λ v p q. no v q ∙ sym (no t l);
-              longer = l;
-              turns = λ v p q. no (v + c) q ∙ sym (no v (omega arith));
-            };
+        is = sym (out t (k t (le-refl t) l));
+        stretch = stretch-constant false l (λ v p q. out v (k v p q));
       }
-    where
-      no : (v : ℕ) → v < b → holds c h v ≡ false
-      no v m = out v (inl (omega arith))
+
+  pub span-before : (b : ℕ) → b ≡ h .begin → t < b → RecordSpan c h t false b b
+  span-before b e l = never-to b l (λ v p q. inl (omega arith))
 
   pub span-over : (e n : ℕ) → e ≡ h .end → e ≤ t → t < n → RecordSpan c h t false n n
-  span-over e n q l m =
-      record {
-        is = sym (no t l);
-        stretch =
-            record {
-              after = m;
-              fixed = λ v p k. no v (omega arith) ∙ sym (no t l);
-              longer = m;
-              turns = λ v p k. no (v + c) (omega arith) ∙ sym (no v (omega arith));
-            };
-      }
-    where
-      no : (v : ℕ) → e ≤ v → holds c h v ≡ false
-      no v k = out v (inr (omega arith))
+  span-over e n q l m = never-to n m (λ v p k. inr (omega arith))
 
   pub span-in : (b e x stop until : ℕ) (on : Bool) → b ≡ h .begin → e ≡ h .end → b ≤ t → t < e → x ≡ t % c → PhaseSpan c h x on stop
       → until ≡ min e (t + (stop - x)) → RecordSpan c h t on until e
@@ -189,26 +171,18 @@ pub record Spanned (s : List ℕ) (c from h t set until era at k : ℕ) : Type 0
   pub span : RecordsSpan s c from k t set until era
 
 pub spans-none : (s : List ℕ) (c from h t : ℕ) → t < E → Spanned s c from h t 0 E E from 0
+unfolding holding recordsThat
 spans-none s c from h t l =
     record {
       passed = passed-none s from h;
       span =
           record {
-            is = unfold holding recordsThat in setOf-none _;
-            stretch =
-                record {
-                  after = l;
-                  fixed = λ v p q. none v ∙ sym (none t);
-                  longer = l;
-                  turns = λ v p q. none (v + c) ∙ sym (none v);
-                };
+            is = setOf-none _;
+            stretch = stretch-constant 0 l (λ v p q. sym (setOf-none _));
             until-most = le-refl E;
             era-most = le-refl E;
           };
     }
-  where
-    none : (v : ℕ) → holding s c from 0 v ≡ 0
-    none v = unfold holding recordsThat in sym (setOf-none _)
 
 module _ {s : List ℕ} {c from h t set until era at k : ℕ} (w : Spanned s c from h t set until era at k) where
   more : k < 64 → (v : ℕ) → holding s c from (k + 1) v ≡ pick (holds c (hoursAt s at) v) (insert (holding s c from k v) k) (holding s c from k v)

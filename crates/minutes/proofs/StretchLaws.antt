@@ -3,12 +3,12 @@
 --     stretched           the same from a minute whose stretch is known
 --     stretch-both        what is made of two goes by the shorter stretch
 --     stretch-of          what is, before a minute, made of one
---     stretch-shorter     a shorter era will do
+--     stretch-constant    what is the same up to a minute
 --     phase-on            the phase goes on with the minutes, to the turn of the cycle
 -- Assumes nothing.
 use Prim.Native.Nat.{ℕ, zero, suc, _+_, _-_, _*_, _/_, _%_, _≤_, _<_, min}
 use mathlib.Core.Path.{_≡_, sym, ap, ap₂, _∙_, subst}
-use native.Mathlib.Nat.{lt-of-not-le, div-add-mod'}
+use native.Mathlib.Nat.{le-refl, lt-of-not-le, div-add-mod'}
 use native.Mathlib.Decide.{decLe}
 use native.Mathlib.Omega.{arith}
 use lib.Arith.{digits-mod}
@@ -55,9 +55,14 @@ module _ {A : Type 0} {f : ℕ → A} {c t until era : ℕ} (s : Stretch f c t u
         turns = λ v p q. is (v + c) (omega arith) ∙ ap made (s .turns v p q) ∙ sym (is v (omega arith));
       }
 
-  pub stretch-shorter : {era′ : ℕ} → t < era′ → era′ ≤ era → Stretch f c t until era′
-  stretch-shorter {era′} l m =
-      record { after = s .after; fixed = s .fixed; longer = l; turns = λ v p q. s .turns v p (omega arith) }
+pub stretch-constant : {A : Type 0} {f : ℕ → A} {c t n : ℕ} (a : A) → t < n → ((v : ℕ) → t ≤ v → v < n → f v ≡ a) → Stretch f c t n n
+stretch-constant {A} {f} {c} {t} {n} a l is =
+    record {
+      after = l;
+      fixed = λ v p q. is v p q ∙ sym (is t (le-refl t) l);
+      longer = l;
+      turns = λ v p q. is (v + c) (omega arith) q ∙ sym (is v p (omega arith));
+    }
 
 pub phase-on : (c t v : ℕ) → t ≤ v → t % c + (v - t) < c → v % c ≡ t % c + (v - t)
 phase-on c t v l m =
