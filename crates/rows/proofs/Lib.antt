@@ -1,1 +1,2 @@
 pub mod ReachedLaws
+pub mod TurnLaws
