@@ -43,9 +43,11 @@ module _ (f : ℕ → Bool) (lo hi k : ℕ) where
       unfolding turnsAt
       turns-if z d ed = rw (le-leb lo k l, le-leb k hi h, ← eb, z) ed
 
-  pub turn-point : Partitioned f lo hi → turnsAt f lo hi k ≡ true → PartitionPoint f lo hi k
+  -- b is whether it turns at k
+  pub turn-point : Partitioned f lo hi → (b : Bool) → b ≡ turnsAt f lo hi k → b ≡ true → PartitionPoint f lo hi k
   unfolding turnsAt
-  turn-point p e =
+  turn-point p z ez h =
+      let e = sym ez ∙ h in
       let a = and-yes (leb lo k && leb k hi && (leb k lo || f (k - 1))) (leb hi k || not (f k)) e in
       let b = and-yes (leb lo k && leb k hi) (leb k lo || f (k - 1)) (a .0) in
       let c = and-yes (leb lo k) (leb k hi) (b .0) in

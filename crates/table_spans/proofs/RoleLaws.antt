@@ -36,6 +36,9 @@ module _ (s : List ℕ) (r i x : ℕ) (e : x ≡ sourceOf s i) where
   pub not-below : r ≤ x → below s r i ≡ false
   not-below l = le-ltb (sourceOf s i) r (omega arith)
 
+pub lower-by : (r : ℕ) {x y : ℕ} → x ≡ y → ltb x r ≡ ltb y r
+lower-by r e = ap (λ (z : ℕ). ltb z r) e
+
 module _ (s : List ℕ) (f : TableFine s) where
   sources-part : (r lo hi : ℕ) → hi ≤ rowsOf s → Partitioned (below s r) lo hi
   sources-part r lo hi m =

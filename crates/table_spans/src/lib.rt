@@ -1,10 +1,13 @@
 // The rows of one source role of an accepted table at a minute: the row that covers it, and how far that stays so.
 ghost use mathlib.Core.Path.{_≡_};
+ghost use mathlib.Core.Bool.{_||_, not};
 ghost use Prim.Native.Nat.{_+_, _-_, _≤_, _<_, min};
+ghost use lib.Dec.{leb, ltb};
 ghost use Rattle.minutes.specs.Minutes.{E};
 ghost use Rattle.table.specs.TableBytes.{rowOf};
 ghost use Rattle.table.specs.TableRefusals.{sourceOf};
 ghost use Rattle.table.specs.Inside.{Opened, windowGiven};
+ghost use Rattle.rows.specs.Rows.{turnsAt};
 ghost use Rattle.table_spans.specs.Spans.{roleFrom, OneRole, Divided, Over, nextOffset, SpanIs};
 use table::Counts;
 use table::Window;
@@ -44,6 +47,59 @@ pub fn role_from(s: &[u8], n: Counts, from: usize, role: usize) -> usize
     a
 }
 
+// The row before row k is of a role below `role`, where it is not before row `from`.
+fn is_lower_before(s: &[u8], n: Counts, from: usize, role: usize, k: usize) -> bool
+    requires { ⌜ Opened (now s) n × (k ≤ n .rows) ⌝ }
+    ensures { λ r. ⌜ r ≡ (leb k from || ltb (sourceOf (now (s .entry)) (k - 1)) role) ⌝ }
+{
+    if k <= from {
+        true
+    } else {
+        row_source(s, n, k - 1) < role
+    }
+}
+
+// Row k is of no role below `role`, where it is there.
+fn is_not_lower(s: &[u8], n: Counts, role: usize, k: usize) -> bool
+    requires { ⌜ Opened (now s) n ⌝ }
+    ensures { λ r. ⌜ r ≡ (leb (n .rows) k || not (ltb (sourceOf (now (s .entry)) k) role)) ⌝ }
+{
+    if n.rows as usize <= k {
+        true
+    } else {
+        !(row_source(s, n, k) < role)
+    }
+}
+
+// Whether row k is what `role_from` gives.
+fn is_role_from(s: &[u8], n: Counts, from: usize, role: usize, k: usize) -> bool
+    requires { ⌜ Opened (now s) n ⌝ }
+    ensures { λ r. ⌜ r ≡ turnsAt (λ i. ltb (sourceOf (now (s .entry)) i) role) from (n .rows) k ⌝ }
+{
+    if k < from {
+        return false;
+    }
+    if (n.rows as usize) < k {
+        return false;
+    }
+    if is_lower_before(s, n, from, role, k) {
+        is_not_lower(s, n, role, k)
+    } else {
+        false
+    }
+}
+
+// What `role_from` gives, looked for at `near` first: any number will do for that, and the right one saves the search.
+pub fn role_near(s: &[u8], n: Counts, from: usize, role: usize, near: usize) -> usize
+    requires { ⌜ Opened (now s) n × (from ≤ n .rows) ⌝ }
+    ensures { λ r. ⌜ r ≡ roleFrom (now (s .entry)) from role ⌝ }
+{
+    if is_role_from(s, n, from, role, near) {
+        return near;
+    }
+    role_from(s, n, from, role)
+}
+
 // The rows of a source role.
 pub fn role_begins(s: &[u8], n: Counts, role: usize) -> RoleRows
     requires { ⌜ Opened (now s) n × (role < 32) ⌝ }
@@ -56,11 +112,13 @@ pub fn role_begins(s: &[u8], n: Counts, role: usize) -> RoleRows
     }
 }
 
-// Of some rows the one that covers a minute, or one past the last; before `until` that stays so, and before `era` it goes by the cycle.
+// Of some rows the one that covers a minute, or one past the last; before `until` that stays so, and before `era` it goes by the cycle. `next` is
+// where a search at a later minute may look first, and promises nothing.
 pub struct Span {
     pub row: usize,
     pub until: u32,
     pub era: u32,
+    pub next: usize,
 }
 
 // The window of row i.
@@ -99,18 +157,21 @@ fn span_within(s: &[u8], n: Counts, of: RoleRows, t: u32, x: u32, j: usize, w: W
     requires { ⌜ Opened (now s) n × Divided (now s) (of .lo) (of .hi) t x (j + 1) × (of .lo ≤ j) × (windowGiven w ≡ rowOf (now s) j .window) × (t < w .end) ⌝ }
     ensures { λ r. ⌜ SpanIs (now (s .entry)) (of .lo) (of .hi) t (r .row) (r .until) (r .era) ⌝ }
 {
+    let k = j + 1;
     let stop = w.offset as u32 + w.length as u32;
     if x < stop {
         return Span {
             row: j,
             until: ahead(t, x, stop, w.end),
             era: w.end,
+            next: k,
         };
     }
     Span {
         row: of.hi,
-        until: ahead(t, x, next_offset(s, n, j + 1, of.hi, t), w.end),
+        until: ahead(t, x, next_offset(s, n, k, of.hi, t), w.end),
         era: w.end,
+        next: k,
     }
 }
 
@@ -124,6 +185,7 @@ fn span_outside(s: &[u8], n: Counts, of: RoleRows, t: u32, x: u32, k: usize) -> 
             row: of.hi,
             until: minutes::END,
             era: minutes::END,
+            next: k,
         };
     }
     let w = row_window(s, n, k);
@@ -132,12 +194,14 @@ fn span_outside(s: &[u8], n: Counts, of: RoleRows, t: u32, x: u32, k: usize) -> 
             row: of.hi,
             until: w.begin,
             era: w.begin,
+            next: k,
         };
     }
     Span {
         row: of.hi,
         until: ahead(t, x, w.offset as u32, w.end),
         era: w.end,
+        next: k,
     }
 }
 
@@ -153,13 +217,13 @@ fn span_after(s: &[u8], n: Counts, of: RoleRows, t: u32, x: u32, j: usize) -> Sp
     span_outside(s, n, of, t, x, j + 1)
 }
 
-// Of the rows of one role the one that covers minute t, and how far that stays so.
-pub fn role_span(s: &[u8], n: Counts, of: RoleRows, t: u32) -> Span
+// Of the rows of one role the one that covers minute t, and how far that stays so; looked for at row `near` first.
+pub fn role_span(s: &[u8], n: Counts, of: RoleRows, near: usize, t: u32) -> Span
     requires { ⌜ Opened (now s) n × OneRole (now s) (of .lo) (of .hi) × (t < E) ⌝ }
     ensures { λ r. ⌜ SpanIs (now (s .entry)) (of .lo) (of .hi) t (r .row) (r .until) (r .era) ⌝ }
 {
     let x = minutes::phase(n.cycle, t);
-    let k = rows::split(s, 16 + 17 * (n.derived as usize), of.lo, of.hi, t, x);
+    let k = rows::split_near(s, 16 + 17 * (n.derived as usize), of.lo, of.hi, near, t, x);
     if of.lo < k {
         return span_after(s, n, of, t, x, k - 1);
     }

@@ -1,4 +1,3 @@
-use mathlib.Core.Path.{sym, _∙_}
 use Rattle.rows.proofs.TurnLaws.{turn-point}
 use borrow.Author.Needs.{needs}
 use Rattle.rows.proofs.split_near.Statement.{statement}
@@ -8,7 +7,7 @@ is-split-requires : tie.Need-is-split-requires
 is-split-requires c κs = search needs
 
 returns : tie.Need-returns
-returns c = turn-point _ _ _ _ (c .before .before .before .pre .2) (sym (c .before .is-split .ensures) ∙ c .if1 .taken)
+returns c = turn-point _ _ _ _ (c .before .before .before .pre .2) _ (c .before .is-split .ensures) (c .if1 .taken)
 
 split-requires : tie.Need-split-requires
 split-requires c κs = search needs
@@ -26,7 +25,7 @@ add-result : tie.Need-add-result
 add-result c = search needs
 
 returns-3 : tie.Need-returns-3
-returns-3 c = turn-point _ _ _ _ (c .before .before .before .before .before .before .pre .2) (sym (c .before .is-split2 .ensures) ∙ c .if3 .taken)
+returns-3 c = turn-point _ _ _ _ (c .before .before .before .before .before .before .pre .2) _ (c .before .is-split2 .ensures) (c .if3 .taken)
 
 split-requires-2 : tie.Need-split-requires-2
 split-requires-2 c κs = search needs

@@ -8,17 +8,17 @@ use Rattle.table_spans.proofs.role_span.Tie as tie
 phase-requires : tie.Need-phase-requires
 phase-requires c κs = laid _ _ (opened-header _ _ (c .before .pre .0)) .cycle-some
 
-cast-split : tie.Need-cast-split
-cast-split c = search needs
+cast-split-near : tie.Need-cast-split-near
+cast-split-near c = search needs
 
-mul-split : tie.Need-mul-split
-mul-split c = search needs
+mul-split-near : tie.Need-mul-split-near
+mul-split-near c = search needs
 
-add-split : tie.Need-add-split
-add-split c = search needs
+add-split-near : tie.Need-add-split-near
+add-split-near c = search needs
 
-split-requires : tie.Need-split-requires
-split-requires c κs =
+split-near-requires : tie.Need-split-near-requires
+split-near-requires c κs =
     let p = c .before .before .before .pre in
     let e = c .before .phase .ensures in
     (p .1 .ordered, rows-inside _ _ (p .0) _ _ (p .1) _ _ e, parts _ _ (p .0) _ _ (p .1) _ _ e)
@@ -29,7 +29,7 @@ sub-span-after c = search needs
 span-after-requires : tie.Need-span-after-requires
 span-after-requires c κs =
     let p = c .before .before .before .before .before .before .pre in
-    let d = divided-last _ _ (p .0) _ _ (p .1) _ _ (c .before .before .before .before .phase .ensures) (p .2) _ (c .before .before .split .ensures) (c .if1 .taken) in
+    let d = divided-last _ _ (p .0) _ _ (p .1) _ _ (c .before .before .before .before .phase .ensures) (p .2) _ (c .before .before .split-near .ensures) (c .if1 .taken) in
     (p .0, d .0, d .1)
 
 returns : tie.Need-returns
@@ -38,11 +38,11 @@ returns c = search needs
 span-outside-requires : tie.Need-span-outside-requires
 span-outside-requires c κs =
     let p = c .before .before .before .before .before .before .pre in
-    let d = divided-none _ _ (p .0) _ _ (p .1) _ _ (c .before .before .before .before .phase .ensures) (p .2) _ (c .before .before .split .ensures) (c .if1 .left) in
+    let d = divided-none _ _ (p .0) _ _ (p .1) _ _ (c .before .before .before .before .phase .ensures) (p .2) _ (c .before .before .split-near .ensures) (c .if1 .left) in
     (p .0, d .0, d .1)
 
 returns-2 : tie.Need-returns-2
 returns-2 c = search needs
 
 pub role-span-spec : {M : Type 1} → statement M
-role-span-spec = tie.close (tie.spec phase-requires cast-split mul-split add-split split-requires sub-span-after span-after-requires returns span-outside-requires returns-2)
+role-span-spec = tie.close (tie.spec phase-requires cast-split-near mul-split-near add-split-near split-near-requires sub-span-after span-after-requires returns span-outside-requires returns-2)
