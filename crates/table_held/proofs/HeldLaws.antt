@@ -173,12 +173,6 @@ module _ (s : List ℕ) (n : Counts) (o : Opened s n) where
       )
 
   -- row lo and those of its role after it; `role` is its source
-  pub source-small : (lo role : ℕ) → lo < n .rows → role ≡ sourceOf s lo → role < 32
-  source-small lo role l e =
-      let f = table-fine s (o .clear) in
-      let b : lo < rowsOf s = omega (arith, counts-are s n (o .counts) .rows) in
-      omega (arith, f .entries _ (f .rows lo b .alone .derived) .source, f .header .roles-most)
-
   pub role-after : (lo hi role : ℕ) → lo < n .rows → role ≡ sourceOf s lo → hi ≡ roleFrom s lo (role + 1) → OneRole s lo hi × (lo < hi)
   role-after lo hi role l e eh =
       let f = table-fine s (o .clear) in

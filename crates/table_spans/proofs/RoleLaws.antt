@@ -1,4 +1,5 @@
 -- Where the rows of a source role begin and end.
+--     source-read                   the source of a row, as it was read
 --     sources-read, role-found      the rows of roles below r come first, and the search for the point at which they end finds it
 --     next-role, next-more          the rows from row lo on of the role of row lo
 --     role-rows, role-next, of-role the rows of role r: they are of one role, where they end, and that they are all of it
@@ -64,9 +65,16 @@ module _ (s : List ℕ) (from r : ℕ) where
   first-role k e = first-is from (rowsOf s) _ k e
 
 -- the source of row i stands at e
-pub source-place : (s : List ℕ) (n : Counts) → Opened s n → (i e : ℕ) → e ≡ 16 + 17 * u32At s (16 + 17 * n .derived + 16 * i) → u8At s e ≡ sourceOf s i
-unfolding rowOf entryOf
-source-place s n o i e ee = ap (u8At s) (rw (counts-are s n (o .counts) .derived) at ee)
+pub source-read : (s : List ℕ) (n : Counts) → Opened s n → (i e x : ℕ) → i < n .rows → x ≡ u8At s e
+    → e ≡ 16 + 17 * u32At s (16 + 17 * n .derived + 16 * i) → (x ≡ sourceOf s i) × (x < 32)
+source-read s n o i e x l ex ee =
+    let f = table-fine s (o .clear) in
+    let b : i < rowsOf s = omega (arith, counts-are s n (o .counts) .rows) in
+    let q : x ≡ sourceOf s i = ex ∙ place in
+    (q, omega (arith, f .entries _ (f .rows i b .alone .derived) .source, f .header .roles-most))
+  where
+    place : u8At s e ≡ sourceOf s i
+    place = unfold rowOf in unfold entryOf in ap (u8At s) (rw (counts-are s n (o .counts) .derived) at ee)
 
 -- the window of row i
 pub window-place : (s : List ℕ) (n : Counts) → Opened s n → (i : ℕ) → rowAtByte s (16 + 17 * n .derived + 16 * i) .window ≡ rowOf s i .window

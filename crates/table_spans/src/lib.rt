@@ -21,7 +21,7 @@ pub struct RoleRows {
 // The source role of row i.
 pub fn row_source(s: &[u8], n: Counts, i: usize) -> usize
     requires { ⌜ Opened (now s) n × (i < n .rows) ⌝ }
-    ensures { λ r. ⌜ r ≡ sourceOf (now (s .entry)) i ⌝ }
+    ensures { λ r. ⌜ (r ≡ sourceOf (now (s .entry)) i) × (r < 32) ⌝ }
 {
     endian::read8(
         s,

@@ -14,7 +14,7 @@ returns : tie.Need-returns
 returns c = beside-none _ _ _ (c .if1 .taken)
 
 returns-2 : tie.Need-returns-2
-returns-2 c = beside-some _ _ _ (c .before .if1 .left) _ (lower-by _ (c .row-source .ensures))
+returns-2 c = beside-some _ _ _ (c .before .if1 .left) _ (lower-by _ (c .row-source .ensures .0))
 
 pub is-lower-before-spec : {M : Type 1} → statement M
 is-lower-before-spec = tie.close (tie.spec sub-row-source row-source-requires returns returns-2)

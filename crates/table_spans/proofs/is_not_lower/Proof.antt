@@ -16,7 +16,7 @@ returns : tie.Need-returns
 returns c = beside-none _ _ _ (c .if1 .taken)
 
 returns-2 : tie.Need-returns-2
-returns-2 c = beside-some _ _ _ (c .before .if1 .left) _ (ap not (lower-by _ (c .row-source .ensures)))
+returns-2 c = beside-some _ _ _ (c .before .if1 .left) _ (ap not (lower-by _ (c .row-source .ensures .0)))
 
 pub is-not-lower-spec : {M : Type 1} → statement M
 is-not-lower-spec = tie.close (tie.spec cast-if1 row-source-requires returns returns-2)

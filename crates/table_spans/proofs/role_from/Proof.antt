@@ -38,7 +38,7 @@ loop-again : tie.Need-loop-again Inv-loop μ-loop
 loop-again c =
     let m = middle _ _ (c .before .before .loop-test .taken) in
     halving-up _ _ _ (sources-read _ _ (c .before .before .before .before .before .before .pre .0) _ _) _ _ _ (c .before .before .before .loop .inv) (m .0) (m .1)
-    (is-below _ _ _ _ (c .before .row-source .ensures) (c .if1 .taken))
+    (is-below _ _ _ _ (c .before .row-source .ensures .0) (c .if1 .taken))
 
 loop-less-2 : tie.Need-loop-less-2 Inv-loop μ-loop
 loop-less-2 c = omega (arith, middle _ _ (c .before .before .loop-test .taken))
@@ -47,7 +47,7 @@ loop-again-2 : tie.Need-loop-again-2 Inv-loop μ-loop
 loop-again-2 c =
     let m = middle _ _ (c .before .before .loop-test .taken) in
     halving-down _ _ _ (sources-read _ _ (c .before .before .before .before .before .before .pre .0) _ _) _ _ _ (c .before .before .before .loop .inv) (m .0) (m .1)
-    (not-below _ _ _ _ (c .before .row-source .ensures) (c .if1 .left))
+    (not-below _ _ _ _ (c .before .row-source .ensures .0) (c .if1 .left))
 
 returns : tie.Need-returns Inv-loop μ-loop
 returns c = role-found _ _ (c .before .before .before .before .pre .0) _ _ _ (halving-end _ _ _ _ _ (c .before .loop .inv) (c .loop-test .left))

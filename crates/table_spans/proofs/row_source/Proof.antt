@@ -1,7 +1,6 @@
-use mathlib.Core.Path.{_∙_}
 use native.Mathlib.Omega.{arith}
 use Rattle.table_answers.proofs.AnswerLaws.{row-inside}
-use Rattle.table_spans.proofs.RoleLaws.{source-place}
+use Rattle.table_spans.proofs.RoleLaws.{source-read}
 use borrow.Author.Needs.{needs}
 use Rattle.table_spans.proofs.row_source.Statement.{statement}
 use Rattle.table_spans.proofs.row_source.Tie as tie
@@ -30,7 +29,9 @@ read8-requires c κs =
     omega (arith, c .entry-place .ensures)
 
 returns : tie.Need-returns
-returns c = c .read8 .ensures .0 ∙ source-place _ _ (c .before .before .before .before .pre .0) _ _ (c .before .entry-place .ensures)
+returns c =
+    let p = c .before .before .before .before .pre in
+    source-read _ _ (p .0) _ _ _ (p .1) (c .read8 .ensures .0) (c .before .entry-place .ensures)
 
 pub row-source-spec : {M : Type 1} → statement M
 row-source-spec =
