@@ -1,4 +1,4 @@
-// The answers that a rota and a table share.
+// The answers that a rota and a table share, and what both tell a sweep over minutes.
 ghost use mathlib.Core.Path.{_≡_};
 ghost use Rattle.policy.specs.Policy.{argumentsJudged};
 
@@ -7,6 +7,13 @@ pub enum Answer {
     Yes(u8),
     No,
     Refused(u8),
+}
+
+// Who holds a permission at a minute; before `until` that stays so, and before `era` it goes by the cycle.
+pub struct Held {
+    pub set: u64,
+    pub until: u32,
+    pub era: u32,
 }
 
 // The first refusal of a question's numbers, else 0.

@@ -7,16 +7,10 @@ ghost use Rattle.policy.specs.Steady.{steadyOver};
 ghost use Rattle.rota.specs.Rota.{policyOf};
 ghost use Rattle.rota.specs.RotaBytes.{rotaOf, cycleOf, usersOf};
 ghost use Rattle.rota.specs.Inside.{Located};
+use policy::Held;
 use rota::Layout;
 
-// Those who hold a permission at a minute; the minute before which they stay the same, and the minute before which they repeat with the cycle.
-pub struct Held {
-    pub set: u64,
-    pub until: u32,
-    pub era: u32,
-}
-
-// At minute t. Where the same hours hold, the same users hold a permission.
+// Who holds a permission at minute t, and how far that stays so. Where the same hours hold, the same users hold a permission.
 pub fn held_at(s: &[u8], l: Layout, t: u32) -> Held
     requires { ⌜ Located (now s) l × (t < E) ⌝ }
     ensures { λ r. ⌜ HeldAt (policyOf (rotaOf (now (s .entry)))) (cycleOf (now (s .entry))) t (r .set) (r .until) (r .era) ⌝ }

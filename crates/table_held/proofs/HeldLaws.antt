@@ -1,5 +1,4 @@
 -- Who holds a permission by the first rows of an accepted table, and how far that stays so, role by role.
---     stretch-both                     what is made of two things stays so as long as both do
 --     held-none, held-more, held-all   no row yet, the rows of one role more, and all rows
 --     no-users, some-users             the users of a row, by the tests of the code
 --     role-after                       the rows of the role of a row, from it on
@@ -22,7 +21,8 @@ use Rattle.endian.specs.Numbers.{u32At, u64At}
 use Rattle.bitset.specs.Sets.{has, setOf, union}
 use Rattle.bitset.proofs.SetLaws.{has-none, has-below, setOf-same}
 use Rattle.minutes.specs.Minutes.{E}
-use Rattle.minutes.specs.Stretch.{Stretch}
+use Rattle.minutes.proofs.StretchLaws.{stretch-both, stretch-of, stretch-constant}
+use Rattle.policy.specs.Held.{HeldAt}
 use Rattle.policy.specs.Policy.{holdersAt}
 use Rattle.table.specs.Table.{policyOf}
 use Rattle.table.specs.TableBytes.{cycleOf, derivedOf, rowsOf, entryOf, rowOf, tableOf}
@@ -38,17 +38,6 @@ use Rattle.table_answers.proofs.HoldersLaws.{rowHas, row-has, gathered, gather-
 use Rattle.table_spans.specs.Spans.{roleFrom, OneRole, rowAt, SpanIs}
 use Rattle.table_spans.proofs.RoleLaws.{next-role, next-more}
 use Rattle.table_held.specs.Held.{usersBefore, usersOfRow, HeldBy}
-
--- h is made of f and g
-pub stretch-both : {A B C : Type 0} (f : ℕ → A) (g : ℕ → B) (h : ℕ → C) (op : A → B → C) → ((v : ℕ) → h v ≡ op (f v) (g v)) → (c t a b p q : ℕ)
-    → Stretch f c t a b → Stretch g c t p q → Stretch h c t (min a p) (min b q)
-stretch-both f g h op is c t a b p q x y =
-    record {
-      after = omega (arith, x .after, y .after);
-      fixed = λ v l m. is v ∙ ap₂ op (x .fixed v l (omega arith)) (y .fixed v l (omega arith)) ∙ sym (is t);
-      longer = omega (arith, x .longer, y .longer);
-      turns = λ v l m. is (v + c) ∙ ap₂ op (x .turns v l (omega arith)) (y .turns v l (omega arith)) ∙ sym (is v);
-    }
 
 -- the users of a row before row hi
 module _ (s : List ℕ) (hi k : ℕ) where
@@ -131,8 +120,7 @@ module _ (s : List ℕ) (t : ℕ) where
   held-none l =
       record {
         set-is = nothing t;
-        stretch =
-            record { after = l; fixed = λ v a b. sym (nothing v) ∙ nothing t; longer = l; turns = λ v a b. sym (nothing (v + cycleOf s)) ∙ nothing v };
+        stretch = stretch-constant 0 l (λ v a b. sym (nothing v));
         until-most = le-refl E;
         era-most = le-refl E;
       }
@@ -146,8 +134,8 @@ module _ (s : List ℕ) (t : ℕ) where
             ey ∙ ap₂ union (h .set-is) (ez ∙ ap (usersOfRow s hi) (w .row-is)) ∙ sym (users-more s a lo hi g t);
         stretch =
             rw (ep, eq)
-            (stretch-both (usersBefore s lo) (rowAt s lo hi) (usersBefore s hi) (λ m k. union m (usersOfRow s hi k)) (users-more s a lo hi g) (cycleOf s) t until era
-            more later (h .stretch) (w .stretch));
+            (stretch-of (stretch-both (h .stretch) (w .stretch) (λ m k. union m (usersOfRow s hi k))) (λ m. m) E (omega (arith, h .until-most))
+            (omega (arith, h .era-most)) (λ v l. users-more s a lo hi g v));
         until-most = omega (arith, h .until-most);
         era-most = omega (arith, h .era-most);
       }
@@ -158,19 +146,15 @@ module _ (s : List ℕ) (n : Counts) (o : Opened s n) where
   all-users v = rw (counts-are s n (o .counts) .rows) (holders-are s (table-fine s (o .clear)) v)
 
   pub held-all : (i t x until era : ℕ) → i ≡ n .rows → HeldBy s i t x until era
-      → (x ≡ holdersAt (policyOf (tableOf s)) t) × Stretch (holdersAt (policyOf (tableOf s))) (cycleOf s) t until era × (until ≤ E) × (era ≤ E)
+      → HeldAt (policyOf (tableOf s)) (cycleOf s) t x until era
   held-all i t x until era ei h =
-      let g = subst (λ (k : ℕ). HeldBy s k t x until era) ei h in (
-        g .set-is ∙ all-users t,
-        record {
-          after = g .stretch .after;
-          fixed = λ v a b. sym (all-users v) ∙ g .stretch .fixed v a b ∙ all-users t;
-          longer = g .stretch .longer;
-          turns = λ v a b. sym (all-users (v + cycleOf s)) ∙ g .stretch .turns v a b ∙ all-users v;
-        },
-        g .until-most,
-        g .era-most,
-      )
+      let g = subst (λ (k : ℕ). HeldBy s k t x until era) ei h in
+      record {
+        is = g .set-is ∙ all-users t;
+        stretch = stretch-of (g .stretch) (λ x. x) E (g .until-most) (g .era-most) (λ v l. sym (all-users v));
+        until-most = g .until-most;
+        era-most = g .era-most;
+      }
 
   -- row lo and those of its role after it; `role` is its source
   pub role-after : (lo hi role : ℕ) → lo < n .rows → role ≡ sourceOf s lo → hi ≡ roleFrom s lo (role + 1) → OneRole s lo hi × (lo < hi)

@@ -1,30 +1,17 @@
 // Who holds a permission at a minute by an accepted table, and how far that stays so: one search among the rows of each role.
 ghost use mathlib.Core.Path.{_≡_};
-ghost use Prim.Native.Nat.{_≤_, _<_, min};
+ghost use Prim.Native.Nat.{_≤_, _<_};
 ghost use Rattle.minutes.specs.Minutes.{E};
-ghost use Rattle.minutes.specs.Stretch.{Stretch};
-ghost use Rattle.policy.specs.Policy.{holdersAt};
+ghost use Rattle.policy.specs.Held.{HeldAt};
 ghost use Rattle.table.specs.Table.{policyOf};
 ghost use Rattle.table.specs.TableBytes.{cycleOf, tableOf};
 ghost use Rattle.table.specs.Inside.{Opened};
 ghost use Rattle.table_spans.specs.Spans.{OneRole, SpanIs};
 ghost use Rattle.table_held.specs.Held.{usersOfRow, HeldBy};
+use policy::Held;
 use table::Counts;
 use table_spans::RoleRows;
 use table_spans::Span;
-
-// Who holds a permission at a minute; before `until` that stays so, and before `era` it goes by the cycle.
-pub struct Held {
-    pub set: u64,
-    pub until: u32,
-    pub era: u32,
-}
-
-fn least(a: u32, b: u32) -> u32
-    ensures { λ r. ⌜ r ≡ min a b ⌝ }
-{
-    if a < b { a } else { b }
-}
 
 // The users of the entry of row k, where it is before row hi, else none.
 fn row_users(s: &[u8], n: Counts, hi: usize, k: usize) -> u64
@@ -46,8 +33,8 @@ fn with_span(s: &[u8], n: Counts, of: RoleRows, t: u32, h: Held, p: Span) -> Hel
 {
     Held {
         set: bitset::either(h.set, row_users(s, n, of.hi, p.row)),
-        until: least(h.until, p.until),
-        era: least(h.era, p.era),
+        until: minutes::earlier(h.until, p.until),
+        era: minutes::earlier(h.era, p.era),
     }
 }
 
@@ -78,7 +65,7 @@ fn pass_role(s: &[u8], n: Counts, places: &mut [usize; 64], lo: usize, t: u32, h
 // did: any numbers will do, and those of a minute shortly before save the searches.
 pub fn held_near(s: &[u8], n: Counts, places: &mut [usize; 64], t: u32) -> Held
     requires { ⌜ Opened (now s) n × (t < E) ⌝ }
-    ensures { λ r. ⌜ (r .set ≡ holdersAt (policyOf (tableOf (now (s .entry)))) t) × Stretch (holdersAt (policyOf (tableOf (now (s .entry))))) (cycleOf (now (s .entry))) t (r .until) (r .era) × (r .until ≤ E) × (r .era ≤ E) ⌝ }
+    ensures { λ r. ⌜ HeldAt (policyOf (tableOf (now (s .entry)))) (cycleOf (now (s .entry))) t (r .set) (r .until) (r .era) ⌝ }
 {
     let rows = n.rows as usize;
     let mut h = Held {
@@ -98,7 +85,7 @@ pub fn held_near(s: &[u8], n: Counts, places: &mut [usize; 64], t: u32) -> Held
 // The same for one minute by itself.
 pub fn held_at(s: &[u8], n: Counts, t: u32) -> Held
     requires { ⌜ Opened (now s) n × (t < E) ⌝ }
-    ensures { λ r. ⌜ (r .set ≡ holdersAt (policyOf (tableOf (now (s .entry)))) t) × Stretch (holdersAt (policyOf (tableOf (now (s .entry))))) (cycleOf (now (s .entry))) t (r .until) (r .era) × (r .until ≤ E) × (r .era ≤ E) ⌝ }
+    ensures { λ r. ⌜ HeldAt (policyOf (tableOf (now (s .entry)))) (cycleOf (now (s .entry))) t (r .set) (r .until) (r .era) ⌝ }
 {
     let mut places = [0; 64];
     held_near(s, n, &mut places, t)
