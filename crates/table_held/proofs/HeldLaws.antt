@@ -6,19 +6,16 @@
 use Prim.Native.Nat.{ℕ, _+_, _*_, _≤_, _<_, min}
 use mathlib.Core.Path.{_≡_, refl, sym, _∙_, ap, ap₂, subst}
 use mathlib.Core.Logic.{⊎-elim}
-use mathlib.Core.Bool.{Bool, true, false, _&&_, _||_, or-true}
+use mathlib.Core.Bool.{Bool, true, _||_, or-true}
 use mathlib.Core.List.{List}
 use native.Mathlib.Nat.{le-refl}
 use native.Mathlib.Omega.{arith}
-use borrow.Author.Tests.{lt-ltb, le-ltb, ltb-true}
-use lib.Dec.{ltb}
-use Rattle.ground.specs.Choice.{pick}
+use borrow.Author.Tests.{lt-ltb, le-ltb}
 use Rattle.ground.specs.Search.{anyBelow}
 use Rattle.ground.proofs.BoolLaws.{and-yes, and-both, or-yes, or-left, clash, eq-ext, lt-or-le}
 use Rattle.ground.proofs.SearchLaws.{any-out, any-stop}
-use Rattle.ground.proofs.FromLaws.{IsFirst, first-is}
 use Rattle.endian.specs.Numbers.{u32At, u64At}
-use Rattle.bitset.specs.Sets.{has, setOf, union}
+use Rattle.bitset.specs.Sets.{has, union}
 use Rattle.bitset.proofs.SetLaws.{has-none, has-below, setOf-same}
 use Rattle.minutes.specs.Minutes.{E}
 use Rattle.minutes.proofs.StretchLaws.{stretch-both, stretch-of, stretch-constant}
@@ -31,12 +28,11 @@ use Rattle.table.specs.Inside.{Opened}
 use Rattle.table.specs.declared.Counts.{Counts}
 use Rattle.table.proofs.HeaderLaws.{counts-are}
 use Rattle.table.proofs.FineLaws.{table-fine}
-use Rattle.table.proofs.TableTheorems.{one-row}
-use Rattle.table_answers.specs.Grants.{rowUsers}
 use Rattle.table_answers.proofs.AnswerLaws.{covering, owned}
 use Rattle.table_answers.proofs.HoldersLaws.{rowHas, row-has, gathered, gather-none, holders-are}
 use Rattle.table_spans.specs.Spans.{roleFrom, OneRole, rowAt, SpanIs}
 use Rattle.table_spans.proofs.RoleLaws.{next-role, next-more}
+use Rattle.table_spans.proofs.SpanLaws.{found, found-is}
 use Rattle.table_held.specs.Held.{usersBefore, usersOfRow, HeldBy}
 
 -- the users of a row before row hi
@@ -58,24 +54,10 @@ some-users s n o hi k e l ee =
 
 -- the rows lo to before hi of one role
 module _ (s : List ℕ) (a : tableJudged s ≡ 0) (lo hi : ℕ) (g : OneRole s lo hi) (v : ℕ) where
-  found : IsFirst lo hi (covering s v) (rowAt s lo hi v)
-  unfolding rowAt
-  found = first-is lo hi (covering s v) _ refl
-
-  -- a row of them that covers v is the one that is found
-  found-is : (i : ℕ) → lo ≤ i → i < hi → covering s v i ≡ true → rowAt s lo hi v ≡ i
-  found-is i l m h =
-      ⊎-elim
-      (λ (b : i < rowAt s lo hi v). clash (covering s v i) h (found .before i l b))
-      (λ (b : rowAt s lo hi v ≤ i).
-      let r : rowAt s lo hi v < hi = omega arith in
-      one-row s a (rowAt s lo hi v) i v (omega (arith, g .most)) (omega (arith, g .most)) (g .one _ i (found .from r) r l m) (found .passes r) h)
-      (lt-or-le i (rowAt s lo hi v))
-
   row-in : (u i : ℕ) → lo ≤ i → i < hi → rowHas s v u i ≡ true → has (usersOfRow s hi (rowAt s lo hi v)) u ≡ true
   row-in u i l m h =
       let p = and-yes (covering s v i) (has (owned s i .users) u) (sym (row-has s (table-fine s a) v u i) ∙ h) in
-      ap (λ (k : ℕ). has (usersOfRow s hi k) u) (found-is i l m (p .0)) ∙ ap (λ (x : ℕ). has x u) (sym (its-users s hi i m)) ∙ p .1
+      ap (λ (k : ℕ). has (usersOfRow s hi k) u) (found-is s a lo hi g v i l m (p .0)) ∙ ap (λ (x : ℕ). has x u) (sym (its-users s hi i m)) ∙ p .1
 
   row-out : (u : ℕ) → has (usersOfRow s hi (rowAt s lo hi v)) u ≡ true → anyBelow hi (rowHas s v u) ≡ true
   row-out u h =
@@ -83,7 +65,7 @@ module _ (s : List ℕ) (a : tableJudged s ≡ 0) (lo hi : ℕ) (g : OneRole s l
       (λ (l : rowAt s lo hi v < hi).
       any-stop _ hi (rowAt s lo hi v) l
       (row-has s (table-fine s a) v u (rowAt s lo hi v)
-      ∙ and-both (covering s v (rowAt s lo hi v)) (has (owned s (rowAt s lo hi v) .users) u) (found .passes l) (ap (λ (x : ℕ). has x u) (its-users s hi _ l) ∙ h)))
+      ∙ and-both (covering s v (rowAt s lo hi v)) (has (owned s (rowAt s lo hi v) .users) u) (found s lo hi v .passes l) (ap (λ (x : ℕ). has x u) (its-users s hi _ l) ∙ h)))
       (λ (l : hi ≤ rowAt s lo hi v). clash (has 0 u) (ap (λ (x : ℕ). has x u) (no-users s hi _ l) ∙ h) (has-none u))
       (lt-or-le (rowAt s lo hi v) hi)
 

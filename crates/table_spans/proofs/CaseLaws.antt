@@ -11,7 +11,7 @@
 use Prim.Native.Nat.{ℕ, _+_, _-_, _*_, _%_, _≤_, _<_, min}
 use mathlib.Core.Path.{_≡_, refl, sym, _∙_, ap, subst}
 use mathlib.Core.Logic.{_⊎_, inl, inr, ⊎-elim}
-use mathlib.Core.Bool.{true, false}
+use mathlib.Core.Bool.{true}
 use mathlib.Core.List.{List}
 use native.Mathlib.Nat.{le-refl, mod-lt, eq-or-lt-of-le}
 use native.Mathlib.Omega.{arith}
@@ -31,8 +31,9 @@ use Rattle.table.proofs.FineLaws.{RowAlone, table-fine}
 use Rattle.table.proofs.RowsLaws.{RowAfter}
 use Rattle.table.proofs.TableTheorems.{in-order}
 use Rattle.rows.proofs.ReachedLaws.{reached-out, reached-not, rising, only}
+use Rattle.table_answers.proofs.AnswerLaws.{covering}
 use Rattle.table_spans.specs.Spans.{OneRole, Divided, Over, nextOffset, rowAt, SpanIs}
-use Rattle.table_spans.proofs.SpanLaws.{covering, at-row, at-none, idle-stretch, era-stretch}
+use Rattle.table_spans.proofs.SpanLaws.{at-row, at-none, idle-stretch, era-stretch}
 
 abbrev window : List ℕ → ℕ → Window
 window s i = rowOf s i .window

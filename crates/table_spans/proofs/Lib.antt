@@ -1,3 +1,4 @@
 pub mod RoleLaws
 pub mod SpanLaws
 pub mod CaseLaws
+pub mod ThroughLaws

@@ -5,7 +5,7 @@
 --     role-rows, role-next, of-role the rows of role r: they are of one role, where they end, and that they are all of it
 -- Assumes nothing.
 use Prim.Native.Nat.{ℕ, _+_, _*_, _≤_, _<_}
-use mathlib.Core.Path.{_≡_, refl, sym, _∙_, ap}
+use mathlib.Core.Path.{_≡_, _∙_, ap}
 use mathlib.Core.Logic.{_↔_, ⊎-elim}
 use mathlib.Core.Bool.{Bool, true, false}
 use mathlib.Core.List.{List}
@@ -13,7 +13,7 @@ use native.Mathlib.Omega.{arith}
 use borrow.Author.Tests.{ltb-true, ltb-false, leb-true, leb-false, lt-ltb, le-ltb, le-leb, lt-leb}
 use lib.Dec.{ltb, leb}
 use Rattle.ground.specs.Partition.{Partitioned, PartitionPoint}
-use Rattle.ground.proofs.BoolLaws.{lt-or-le, clash}
+use Rattle.ground.proofs.BoolLaws.{lt-or-le}
 use Rattle.ground.proofs.FromLaws.{IsFirst, first-is, is-first}
 use Rattle.endian.specs.Numbers.{u8At, u32At}
 use Rattle.table.specs.TableBytes.{rowsOf, rowAtByte, entryOf, rowOf}

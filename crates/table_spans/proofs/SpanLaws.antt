@@ -1,11 +1,13 @@
 -- The rows lo to before hi of one role of an accepted table, and how far what one of them covers stays so.
+--     at-row, at-none  the row that is found, and that there is none
+--     found, found-is  what is known of it: a row that covers the minute is the one
 --     idle-stretch     no row covers a minute from t to before u
 --     era-stretch      within the dates of one of them, from phase x to before phase d no row begins or ends
 -- Assumes nothing.
 use Prim.Native.Nat.{ℕ, suc, _+_, _-_, _*_, _/_, _%_, _≤_, _<_, min}
 use mathlib.Core.Path.{_≡_, refl, sym, _∙_, ap}
 use mathlib.Core.Logic.{_⊎_, inl, inr, ⊎-elim}
-use mathlib.Core.Bool.{Bool, true, false}
+use mathlib.Core.Bool.{Bool, true}
 use mathlib.Core.List.{List}
 use native.Mathlib.Nat.{le-refl, div-add-mod', mod-lt, eq-or-lt-of-le}
 use native.Mathlib.Omega.{arith}
@@ -13,19 +15,14 @@ use lib.Arith.{digits-mod}
 use Rattle.ground.specs.From.{firstFrom}
 use Rattle.ground.proofs.BoolLaws.{lt-or-le, not-yes, clash}
 use Rattle.ground.proofs.FromLaws.{IsFirst, first-is, is-first}
-use Rattle.minutes.specs.Minutes.{E, Window, covers}
 use Rattle.minutes.specs.Stretch.{Stretch}
 use Rattle.minutes.proofs.WindowLaws.{In, covers-in, in-covers}
-use Rattle.table.specs.TableBytes.{cycleOf, rowsOf, rowOf}
+use Rattle.table.specs.TableBytes.{cycleOf, rowOf}
 use Rattle.table.specs.TableRefusals.{sourceOf, tableJudged}
 use Rattle.table.proofs.RowsLaws.{RowAfter}
-use Rattle.table.proofs.FineLaws.{table-fine}
-use Rattle.table.proofs.TableTheorems.{in-order}
+use Rattle.table.proofs.TableTheorems.{in-order, one-row}
+use Rattle.table_answers.proofs.AnswerLaws.{covering}
 use Rattle.table_spans.specs.Spans.{OneRole, rowAt}
-
--- row i covers v
-abbrev pub covering : List ℕ → ℕ → ℕ → Bool
-covering s v i = covers (cycleOf s) (rowOf s i .window) v
 
 -- tests that agree from m on
 first-alike : (m n : ℕ) (f g : ℕ → Bool) → ((i : ℕ) → m ≤ i → i < n → f i ≡ true → g i ≡ true) → ((i : ℕ) → m ≤ i → i < n → g i ≡ true → f i ≡ true)
@@ -90,7 +87,21 @@ module _ (s : List ℕ) (lo hi : ℕ) (l : lo ≤ hi) where
           let z : In (cycleOf s) (rowOf s i .window) v = covers-in h in
           ⊎-elim (λ (x : rowOf s i .window .end ≤ t). omega (arith, z .to)) (λ (x : u ≤ rowOf s i .window .begin). omega (arith, z .from)) (idle i p q))
 
+pub found : (s : List ℕ) (lo hi v : ℕ) → IsFirst lo hi (covering s v) (rowAt s lo hi v)
+unfolding rowAt
+found s lo hi v = first-is lo hi (covering s v) _ refl
+
 module _ (s : List ℕ) (a : tableJudged s ≡ 0) (lo hi : ℕ) (g : OneRole s lo hi) where
+  pub found-is : (v i : ℕ) → lo ≤ i → i < hi → covering s v i ≡ true → rowAt s lo hi v ≡ i
+  found-is v i l m h =
+      let z = found s lo hi v in
+      ⊎-elim
+      (λ (b : i < rowAt s lo hi v). clash (covering s v i) h (z .before i l b))
+      (λ (b : rowAt s lo hi v ≤ i).
+      let r : rowAt s lo hi v < hi = omega arith in
+      one-row s a (rowAt s lo hi v) i v (omega (arith, g .most)) (omega (arith, g .most)) (g .one _ i (z .from r) r l m) (z .passes r) h)
+      (lt-or-le i (rowAt s lo hi v))
+
   -- a row that covers a minute of row j's dates has the same dates
   same-dates : (i j v : ℕ) → lo ≤ i → i < hi → lo ≤ j → j < hi → rowOf s j .window .begin ≤ v → v < rowOf s j .window .end
       → In (cycleOf s) (rowOf s i .window) v

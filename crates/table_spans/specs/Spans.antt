@@ -3,14 +3,15 @@
 use Prim.Native.Nat.{ℕ, _+_, _*_, _%_, _≤_, _<_}
 use mathlib.Core.Path.{_≡_}
 use mathlib.Core.List.{List}
-use mathlib.Core.Bool.{_&&_}
+use mathlib.Core.Bool.{Bool, _&&_}
 use lib.Dec.{leb, ltb}
 use Rattle.ground.specs.Choice.{pick}
 use Rattle.ground.specs.From.{firstFrom}
 use Rattle.ground.specs.Partition.{PartitionPoint}
+use Rattle.bitset.specs.Sets.{has}
 use Rattle.minutes.specs.Minutes.{E, covers}
 use Rattle.minutes.specs.Stretch.{Stretch}
-use Rattle.table.specs.TableBytes.{cycleOf, derivedOf, rowsOf, rowOf}
+use Rattle.table.specs.TableBytes.{cycleOf, derivedOf, rowsOf, entryOf, rowOf}
 use Rattle.table.specs.TableRefusals.{sourceOf, tableJudged}
 use Rattle.rows.specs.Rows.{reachedAt}
 
@@ -27,6 +28,10 @@ pub record OneRole (s : List ℕ) (lo hi : ℕ) : Type 0 where
 -- of the rows lo to before hi the first that covers minute v, or hi
 unfoldable pub rowAt : List ℕ → ℕ → ℕ → ℕ → ℕ
 rowAt s lo hi v = firstFrom lo hi (λ i. covers (cycleOf s) (rowOf s i .window) v)
+
+-- row k is before row hi, and its entry has user u and permission p
+unfoldable pub grantsOfRow : List ℕ → ℕ → ℕ → ℕ → ℕ → Bool
+grantsOfRow s hi u p k = ltb k hi && has (entryOf s (rowOf s k .derived) .users) u && has (entryOf s (rowOf s k .derived) .permissions) p
 
 -- of the rows lo to before hi of one role, those before k are reached at minute t, whose phase is x, and no other
 pub record Divided (s : List ℕ) (lo hi t x k : ℕ) : Type 0 where

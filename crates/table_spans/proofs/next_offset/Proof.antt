@@ -1,6 +1,3 @@
-use mathlib.Core.Path.{_∙_, ap}
-use native.Mathlib.Omega.{arith}
-use Rattle.minutes.specs.Minutes.{Window}
 use Rattle.table_spans.proofs.CaseLaws.{offset-read, late-read, none-read}
 use borrow.Author.Needs.{needs}
 use Rattle.table_spans.proofs.next_offset.Statement.{statement}
