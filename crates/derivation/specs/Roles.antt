@@ -31,7 +31,7 @@ unfoldable pub rowsFrom : Rota → ℕ → ℕ → ℕ → List Row
 rowsFrom ρ zero r base = []
 rowsFrom ρ (suc n) r base = rowsAt ρ r base ++ rowsFrom ρ n (suc r) (base + length (entriesAt ρ r))
 
--- the table of the roles from `first` on, up to `end`, with the header of the whole rota's
+-- the table of the roles from `first` on, up to `end`, with the header of the whole rota's table
 unfoldable pub rewriteRoles : Rota → ℕ → ℕ → Table
 rewriteRoles ρ first end =
     record {
