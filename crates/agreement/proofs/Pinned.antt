@@ -16,7 +16,7 @@ use Rattle.rota.specs.Rota.{Rota}
 use Rattle.rota.specs.RotaWell.{RotaWell}
 use Rattle.table.specs.Table.{Entry, Table, entryAt, noEntry}
 use Rattle.table.specs.TableBytes.{tableBytes}
-use Rattle.table.proofs.TableTheorems.{accepted-spelt}
+use Rattle.table_reader.proofs.TableTheorems.{accepted-spelt}
 use Rattle.derivation.specs.Rewriting.{rewrite}
 use Rattle.derivation.specs.Meaning.{EnabledFor}
 use Rattle.derivation.specs.Untimed.{Untimed, onFor, countOf, untimedAt, untimedOf, Rival}

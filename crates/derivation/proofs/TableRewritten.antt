@@ -13,8 +13,8 @@ use Rattle.rota.specs.RotaWell.{RotaWell}
 use Rattle.table.specs.TableBytes.{tableBytes, tableOf}
 use Rattle.table.specs.TableRefusals.{tableJudged}
 use Rattle.table.specs.TableWell.{TableWell}
-use Rattle.table.proofs.ReadBackLaws.{bytes-length}
-use Rattle.table.proofs.TableTheorems.{read-back, well-accepted, well-bytes}
+use Rattle.table_reader.proofs.ReadBackLaws.{bytes-length}
+use Rattle.table_reader.proofs.TableTheorems.{read-back, well-accepted, well-bytes}
 use Rattle.derivation.specs.Rewriting.{rewrite, sizeOf}
 use Rattle.derivation.proofs.TableOrder.{entries-few, entries-ascend, rows-few, entries-well, rows-well, rows-ordered}
 

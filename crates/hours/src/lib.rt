@@ -1,15 +1,15 @@
-// Hours: references, and records read from their bytes.
+// Hours: references, and one record read from its bytes; crate hours_reader has all records of a rota.
 ghost use mathlib.Core.Path.{_≡_};
-ghost use mathlib.Core.Bool.{false, _||_};
+ghost use mathlib.Core.Bool.{_||_};
 ghost use Prim.Native.Nat.{_+_, _*_, _≤_, _<_};
 ghost use lib.Dec.{eqb, ltb};
 ghost use lib.ListN.{length};
 ghost use Rattle.ground.specs.Judgement.{inTurn};
 ghost use Rattle.hours.specs.Hours.{refOf, dangling, holds};
 ghost use Rattle.hours.specs.HoursBytes.{pairsAt, hoursAt};
-ghost use Rattle.hours.specs.HoursRefusals.{pairJudged, recordJudged};
+ghost use Rattle.hours.specs.HoursRefusals.{pairJudged};
 ghost use Rattle.hours.specs.Answers.{hoursGiven, hoursOutcome};
-ghost use Rattle.hours.specs.Inside.{RecordsRead, datesHold, pairsHold, holding, refIn};
+ghost use Rattle.hours.specs.Inside.{datesHold, pairsHold};
 
 // An hours reference: always, or the number of an hours record.
 pub enum HoursRef {
@@ -35,17 +35,6 @@ pub fn dangles(r: HoursRef, h: usize) -> bool
     match r {
         HoursRef::Always => false,
         HoursRef::Numbered(k) => h <= k as usize,
-    }
-}
-
-// Whether a reference holds, by the set of the records that hold.
-pub fn ref_holds(r: HoursRef, set: u64, h: usize) -> bool
-    requires { ⌜ (dangling h r ≡ false) × (h ≤ 32) ⌝ }
-    ensures { λ b. ⌜ b ≡ refIn set r ⌝ }
-{
-    match r {
-        HoursRef::Always => true,
-        HoursRef::Numbered(k) => bitset::contains(set, k as u32),
     }
 }
 
@@ -126,35 +115,6 @@ pub fn judge(s: &[u8], cycle: u32, at: usize, total: u32) -> HoursAnswer
     HoursAnswer::Accepted(n)
 }
 
-// What a walk over hours records leaves: a refusal, or 0 and where the records end.
-pub struct Walk {
-    pub code: u8,
-    pub at: usize,
-}
-
-// The first refusal of the h records from `from` on.
-pub fn judge_all(s: &[u8], cycle: u32, from: usize, h: usize) -> Walk
-    requires { ⌜ from ≤ length (now s) ⌝ }
-    ensures { λ r. ⌜ RecordsRead (now (s .entry)) cycle from h (r .code) (r .at) ⌝ }
-{
-    let mut k = 0;
-    let mut at = from;
-    let mut total = 0;
-    while k < h {
-        match judge(s, cycle, at, total) {
-            HoursAnswer::Refused(code) => {
-                return Walk { code, at };
-            }
-            HoursAnswer::Accepted(n) => {
-                at = at + 10 + 4 * (n as usize);
-                total += n;
-                k += 1;
-            }
-        }
-    }
-    Walk { code: 0, at }
-}
-
 // Where the record after the one at `at` begins.
 pub fn next_record(s: &[u8], at: usize) -> usize
     requires { ⌜ at + 10 + 4 * pairsAt (now s) at ≤ length (now s) ⌝ }
@@ -199,22 +159,4 @@ pub fn record_holds(s: &[u8], cycle: u32, at: usize, t: u32) -> bool
     } else {
         false
     }
-}
-
-// The numbers of the h records from `from` on that hold at minute t, of records that are not refused.
-pub fn holding_at(s: &[u8], cycle: u32, from: usize, h: usize, t: u32) -> u64
-    requires { ⌜ (inTurn (recordJudged (now s) cycle from) h ≡ 0) × (h ≤ 32) × (0 < cycle) ⌝ }
-    ensures { λ r. ⌜ r ≡ holding (now (s .entry)) cycle from h t ⌝ }
-{
-    let mut set = 0;
-    let mut k = 0;
-    let mut at = from;
-    while k < h {
-        if record_holds(s, cycle, at, t) {
-            set = bitset::with(set, k as u32);
-        }
-        at = next_record(s, at);
-        k += 1;
-    }
-    set
 }

@@ -28,8 +28,8 @@ use Rattle.hours.specs.HoursRefusals.{earliest, recordJudged}
 use Rattle.hours.specs.HoursWell.{PairWell}
 use Rattle.hours.specs.Inside.{datesHold, pairsHold, recordsThat, holding}
 use Rattle.hours.proofs.HoldsLaws.{spanAt, pairs-yes, pairs-no, holds-parts}
-use Rattle.hours.proofs.RecordLaws.{pairs-each, hours-well}
-use Rattle.hours.proofs.WalkLaws.{Passed, passed-none, passed-more, passed-end, passed-fine}
+use Rattle.hours_reader.proofs.RecordLaws.{pairs-each, hours-well}
+use Rattle.hours_reader.proofs.WalkLaws.{Passed, passed-none, passed-more, passed-end, passed-fine}
 use Rattle.hours_times.specs.Spans.{RecordReady, PhaseSpan, RecordSpan, RecordsSpan}
 
 -- ---- pairs

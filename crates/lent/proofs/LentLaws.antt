@@ -29,7 +29,7 @@ use Rattle.table.specs.declared.Counts.{Counts}
 use Rattle.table.specs.declared.TableAnswer.{TableAnswer}
 use Rattle.table.specs.declared.TableAnswer.the-variants as table
 use Rattle.table.proofs.FineLaws.{table-fine}
-use Rattle.table.proofs.ReadLaws.{closed, opened}
+use Rattle.table_reader.proofs.ReadLaws.{closed, opened}
 use Rattle.lent.specs.Lent.{judgedAs, policyAs}
 use Rattle.lent.specs.Inside.{sourceAs, lendingGiven, lendOutcome, Lends, kindOf, usersOf, permissionsOf}
 use Rattle.lent.specs.declared.Kind.{Kind}

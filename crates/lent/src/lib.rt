@@ -39,7 +39,7 @@ pub fn lend(kind: Kind, s: &[u8]) -> Lending
             LayoutAnswer::Refused(n) => Lending::Refused(n),
             LayoutAnswer::Accepted(l) => Lending::Lent(Source::Rota(l)),
         },
-        Kind::Table => match table::read(s) {
+        Kind::Table => match table_reader::read(s) {
             TableAnswer::Refused(code) => Lending::Refused(code),
             TableAnswer::Accepted(n) => Lending::Lent(Source::Table(n)),
         },

@@ -21,7 +21,7 @@ use Rattle.endian.proofs.StandsLaws.{At, at-long}
 use Rattle.rota.specs.RotaBytes.{rotaOf}
 use Rattle.rota.specs.RotaRefusals.{rotaJudged}
 use Rattle.table.specs.TableBytes.{tableBytes, tableOf}
-use Rattle.table.proofs.ReadBackLaws.{bytes-length, header-is, spells}
+use Rattle.table_reader.proofs.ReadBackLaws.{bytes-length, header-is, spells}
 use Rattle.derivation.specs.Rewriting.{rewrite, sizeOf, rewriteJudged, Written, writtenOf, rewriteOutcome, areaAfter}
 use Rattle.lines.specs.Lines.{refusedLine}
 use Rattle.lines.specs.Written.{Put}

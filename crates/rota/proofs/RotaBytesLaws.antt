@@ -17,9 +17,9 @@ use Rattle.endian.specs.Numbers.{Bytes, u8At, u16At, bytes8, bytes16}
 use Rattle.endian.proofs.PartLaws.{part, part-join, part-one, tiles, spell16}
 use Rattle.hours.specs.Hours.{refOf, refByte}
 use Rattle.hours.specs.declared.HoursRef.{HoursRef}
-use Rattle.hours.proofs.ByteLaws.{in-ref, in-records}
-use Rattle.hours.proofs.RecordLaws.{recordAt-is}
-use Rattle.hours.proofs.RecordBytesLaws.{ref-spelt, ref-read, read-records, spell-records}
+use Rattle.hours_reader.proofs.ByteLaws.{in-ref, in-records}
+use Rattle.hours_reader.proofs.RecordLaws.{recordAt-is}
+use Rattle.hours_reader.proofs.RecordBytesLaws.{ref-spelt, ref-read, read-records, spell-records}
 use Rattle.rota.specs.Rota.{Row, Rota}
 use Rattle.rota.specs.RotaBytes.{headerLength, headerBytes, refBytes, rowBytes, rotaBytes, hoursOf, rolesOf, userRowsOf, permissionRowsOf, rolesAt, userRowsAt, permissionRowsAt, endsAt, rowAtByte, rowAt, rotaOf}
 use Rattle.rota.specs.RotaWell.{RefWell, RowWell, RotaWell}

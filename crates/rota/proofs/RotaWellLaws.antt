@@ -14,7 +14,7 @@ use Rattle.ground.proofs.JudgementLaws.{turns-clear}
 use Rattle.ground.proofs.SequenceLaws.{listOf-length, all-listOf, listOf-all}
 use Rattle.endian.specs.Numbers.{u16At}
 use Rattle.hours.specs.HoursBytes.{hoursFrom}
-use Rattle.hours.proofs.RecordLaws.{records-iff}
+use Rattle.hours_reader.proofs.RecordLaws.{records-iff}
 use Rattle.rota.specs.RotaBytes.{headerLength, cycleOf, hoursOf, usersOf, permissionsOf, rolesOf, userRowsOf, permissionRowsOf, userRowsAt, permissionRowsAt, endsAt, rotaOf}
 use Rattle.rota.specs.RotaRefusals.{countsOver, headerJudged, roleJudged, rowBad, rowJudged, rotaJudged}
 use Rattle.rota.specs.RotaWell.{RotaWell}

@@ -177,7 +177,7 @@ pub fn locate(s: &[u8]) -> LayoutAnswer
     let n = read_counts(s);
     let h = n.hours as usize;
     let hours_at = header_length(s);
-    let w = hours::judge_all(s, n.cycle, hours_at, h);
+    let w = hours_reader::judge_all(s, n.cycle, hours_at, h);
     let code = w.code;
     if code != 0 {
         return LayoutAnswer::Refused(code);

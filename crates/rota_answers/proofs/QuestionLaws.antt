@@ -21,7 +21,7 @@ use Rattle.minutes.specs.Minutes.{E}
 use Rattle.hours.specs.Inside.{holding, refIn}
 use Rattle.hours.specs.declared.HoursRef.{HoursRef}
 use Rattle.hours.specs.declared.HoursRef.the-variants.{Numbered}
-use Rattle.hours.proofs.RefLaws.{ref-in}
+use Rattle.hours_reader.proofs.RefLaws.{ref-in}
 use Rattle.policy.specs.Policy.{isYes, holdsAny, holdersAt}
 use Rattle.policy.proofs.PolicyLaws.{yes-is}
 use Rattle.rota.specs.Rota.{enabled, assigned, hasUser, hasPermission, through, answer, policyOf}

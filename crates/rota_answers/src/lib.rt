@@ -25,7 +25,7 @@ fn row_in(s: &[u8], h: usize, set: u64, at: usize) -> bool
     requires { ⌜ (at + 3 ≤ length (now s)) × (h ≤ 32) × (dangling h (rowAtByte (now s) at .hours) ≡ false) ⌝ }
     ensures { λ r. ⌜ r ≡ refIn set (rowAtByte (now (s .entry)) at .hours) ⌝ }
 {
-    hours::ref_holds(decode(s[at + 2]), set, h)
+    hours_reader::ref_holds(decode(s[at + 2]), set, h)
 }
 
 // Whether the row at `at` is one of number x and its hours are in the set.
@@ -138,7 +138,7 @@ fn roles_enabled(s: &[u8], h: usize, set: u64, at: usize, n: usize) -> u64
     let mut roles = 0;
     let mut k = 0;
     while k < n {
-        if hours::ref_holds(decode(s[at + k]), set, h) {
+        if hours_reader::ref_holds(decode(s[at + k]), set, h) {
             roles = bitset::with(roles, k as u32);
         }
         k += 1;
@@ -181,7 +181,7 @@ pub fn answer_in(s: &[u8], l: Layout, u: u32, p: u32, t: u32) -> Answer
     ensures { λ r. ⌜ answerGiven r ≡ given (answer (rotaOf (now (s .entry))) u p t) ⌝ }
 {
     let n = l.counts;
-    let set = hours::holding_at(s, n.cycle, l.hours_at, n.hours as usize, t);
+    let set = hours_reader::holding_at(s, n.cycle, l.hours_at, n.hours as usize, t);
     let roles = question_roles(s, l, set, u, p);
     if roles == 0 {
         Answer::No
@@ -219,7 +219,7 @@ pub fn holders_in(s: &[u8], l: Layout, t: u32) -> u64
     holders_by(
         s,
         l,
-        hours::holding_at(s, n.cycle, l.hours_at, n.hours as usize, t),
+        hours_reader::holding_at(s, n.cycle, l.hours_at, n.hours as usize, t),
     )
 }
 

@@ -19,9 +19,9 @@ use Rattle.minutes.specs.Minutes.{Window, covers}
 use Rattle.minutes.proofs.WindowLaws.{In, covers-in}
 use Rattle.table.specs.TableBytes.{cycleOf, derivedOf, rowsOf, rowOf}
 use Rattle.table.specs.TableRefusals.{sourceOf, tableJudged}
-use Rattle.table.proofs.FollowsLaws.{After}
+use Rattle.table_reader.proofs.FollowsLaws.{After}
 use Rattle.table.proofs.FineLaws.{table-fine}
-use Rattle.table.proofs.TableTheorems.{in-order}
+use Rattle.table_reader.proofs.TableTheorems.{in-order}
 use Rattle.rows.specs.Rows.{reached, reachedAt}
 
 -- ---- one window

@@ -35,7 +35,7 @@ pub extern "C" fn softlode_rota_read(s: &[u8]) -> RotaTold
 pub extern "C" fn softlode_table_read(s: &[u8]) -> TableTold
     ensures { λ r. ⌜ r ≡ tableTold (tableRead (now (s .entry))) ⌝ }
 {
-    told::tell_table(table::read(s))
+    told::tell_table(table_reader::read(s))
 }
 
 // Rewrites a rota into the area `out`.
@@ -86,7 +86,7 @@ pub extern "C" fn softlode_table_question(s: &[u8], u: u32, p: u32, t: u32) -> T
 pub extern "C" fn softlode_rota_advance(service: &mut Service, s: &[u8], m: u32) -> Told
     ensures { λ r. ⌜ leaving (now (service .exit)) r ≡ steppedBy (lentStep Kind.Rota (now (s .entry)) (now (service .entry)) (advance m)) ⌝ }
 {
-    let r = told::rota_advance_told(*service, s, m);
+    let r = told_calls::rota_advance_told(*service, s, m);
     *service = r.service;
     r.told
 }
@@ -95,7 +95,7 @@ pub extern "C" fn softlode_rota_advance(service: &mut Service, s: &[u8], m: u32)
 pub extern "C" fn softlode_rota_open(service: &mut Service, s: &[u8], u: u32) -> Told
     ensures { λ r. ⌜ leaving (now (service .exit)) r ≡ steppedBy (lentStep Kind.Rota (now (s .entry)) (now (service .entry)) («open» u)) ⌝ }
 {
-    let r = told::rota_open_told(*service, s, u);
+    let r = told_calls::rota_open_told(*service, s, u);
     *service = r.service;
     r.told
 }
@@ -104,7 +104,7 @@ pub extern "C" fn softlode_rota_open(service: &mut Service, s: &[u8], u: u32) ->
 pub extern "C" fn softlode_rota_close(service: &mut Service, s: &[u8], u: u32) -> Told
     ensures { λ r. ⌜ leaving (now (service .exit)) r ≡ steppedBy (lentStep Kind.Rota (now (s .entry)) (now (service .entry)) (close u)) ⌝ }
 {
-    let r = told::rota_close_told(*service, s, u);
+    let r = told_calls::rota_close_told(*service, s, u);
     *service = r.service;
     r.told
 }
@@ -113,7 +113,7 @@ pub extern "C" fn softlode_rota_close(service: &mut Service, s: &[u8], u: u32) -
 pub extern "C" fn softlode_rota_ask(service: &mut Service, s: &[u8], u: u32, p: u32) -> Told
     ensures { λ r. ⌜ leaving (now (service .exit)) r ≡ steppedBy (lentStep Kind.Rota (now (s .entry)) (now (service .entry)) (ask u p)) ⌝ }
 {
-    let r = told::rota_ask_told(*service, s, u, p);
+    let r = told_calls::rota_ask_told(*service, s, u, p);
     *service = r.service;
     r.told
 }
@@ -122,7 +122,7 @@ pub extern "C" fn softlode_rota_ask(service: &mut Service, s: &[u8], u: u32, p: 
 pub extern "C" fn softlode_table_advance(service: &mut Service, s: &[u8], m: u32) -> Told
     ensures { λ r. ⌜ leaving (now (service .exit)) r ≡ steppedBy (lentStep Kind.Table (now (s .entry)) (now (service .entry)) (advance m)) ⌝ }
 {
-    let r = told::table_advance_told(*service, s, m);
+    let r = told_calls::table_advance_told(*service, s, m);
     *service = r.service;
     r.told
 }
@@ -131,7 +131,7 @@ pub extern "C" fn softlode_table_advance(service: &mut Service, s: &[u8], m: u32
 pub extern "C" fn softlode_table_open(service: &mut Service, s: &[u8], u: u32) -> Told
     ensures { λ r. ⌜ leaving (now (service .exit)) r ≡ steppedBy (lentStep Kind.Table (now (s .entry)) (now (service .entry)) («open» u)) ⌝ }
 {
-    let r = told::table_open_told(*service, s, u);
+    let r = told_calls::table_open_told(*service, s, u);
     *service = r.service;
     r.told
 }
@@ -140,7 +140,7 @@ pub extern "C" fn softlode_table_open(service: &mut Service, s: &[u8], u: u32) -
 pub extern "C" fn softlode_table_close(service: &mut Service, s: &[u8], u: u32) -> Told
     ensures { λ r. ⌜ leaving (now (service .exit)) r ≡ steppedBy (lentStep Kind.Table (now (s .entry)) (now (service .entry)) (close u)) ⌝ }
 {
-    let r = told::table_close_told(*service, s, u);
+    let r = told_calls::table_close_told(*service, s, u);
     *service = r.service;
     r.told
 }
@@ -149,7 +149,7 @@ pub extern "C" fn softlode_table_close(service: &mut Service, s: &[u8], u: u32) 
 pub extern "C" fn softlode_table_ask(service: &mut Service, s: &[u8], u: u32, p: u32) -> Told
     ensures { λ r. ⌜ leaving (now (service .exit)) r ≡ steppedBy (lentStep Kind.Table (now (s .entry)) (now (service .entry)) (ask u p)) ⌝ }
 {
-    let r = told::table_ask_told(*service, s, u, p);
+    let r = told_calls::table_ask_told(*service, s, u, p);
     *service = r.service;
     r.told
 }

@@ -1,12 +1,3 @@
+pub mod FineLaws
 pub mod HeaderLaws
 pub mod EntryLaws
-pub mod RowLaws
-pub mod ReadLaws
-pub mod FollowsLaws
-pub mod FineLaws
-pub mod RowsLaws
-pub mod SpeltLaws
-pub mod ReadBackLaws
-pub mod WellLaws
-pub mod WidthLaws
-pub mod TableTheorems

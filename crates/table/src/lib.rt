@@ -1,13 +1,12 @@
-// The flat table: reading it.
+// The flat table: its header, one entry and one row, read and judged; crate table_reader reads a whole table.
 ghost use mathlib.Core.Path.{_≡_};
-ghost use Prim.Native.Nat.{_+_, _*_, _%_, _≤_, _<_};
+ghost use Prim.Native.Nat.{_+_, _≤_};
 ghost use lib.ListN.{length};
-ghost use Rattle.ground.specs.Judgement.{inTurn};
-ghost use Rattle.endian.specs.Numbers.{u8At, u32At};
+ghost use Rattle.endian.specs.Numbers.{u8At};
 ghost use Rattle.table.specs.TableBytes.{entryAtByte, rowAtByte};
-ghost use Rattle.table.specs.TableRefusals.{entryBad, entryJudged, rowBad, follows, rowJudged};
-ghost use Rattle.table.specs.Answers.{countsOf, tableGiven, readOutcome};
-ghost use Rattle.table.specs.Inside.{headerOutcome, windowGiven, rowMade, Headed};
+ghost use Rattle.table.specs.TableRefusals.{entryBad, rowBad, follows};
+ghost use Rattle.table.specs.Answers.{countsOf, tableGiven};
+ghost use Rattle.table.specs.Inside.{headerOutcome, windowGiven, rowMade};
 
 // The counts of an accepted table's header.
 pub struct Counts {
@@ -49,7 +48,7 @@ fn read_counts(s: &[u8]) -> Counts
 }
 
 // Reads a header: 21 to 25 in order, or its counts.
-fn read_header(s: &[u8]) -> TableAnswer
+pub fn read_header(s: &[u8]) -> TableAnswer
     ensures { λ r. ⌜ tableGiven r ≡ headerOutcome (now (s .entry)) ⌝ }
 {
     if s.len() < 16 {
@@ -81,7 +80,7 @@ fn read_header(s: &[u8]) -> TableAnswer
 }
 
 // Whether the entry at `at`, of this source, is refused after one whose source is `before`.
-fn entry_refused(s: &[u8], n: Counts, at: usize, source: usize, before: usize) -> bool
+pub fn entry_refused(s: &[u8], n: Counts, at: usize, source: usize, before: usize) -> bool
     requires { ⌜ (at + 17 ≤ length (now s)) × (source ≡ u8At (now s) at) × (n .users ≤ 64) × (n .permissions ≤ 64) ⌝ }
     ensures { λ r. ⌜ r ≡ entryBad (n .roles) (n .users) (n .permissions) before (entryAtByte (now (s .entry)) at) ⌝ }
 {
@@ -106,26 +105,6 @@ fn entry_refused(s: &[u8], n: Counts, at: usize, source: usize, before: usize) -
     }
 }
 
-// The first refusal of the entries, else 0.
-fn judge_entries(s: &[u8], n: Counts) -> u8
-    requires { ⌜ Headed (now s) n ⌝ }
-    ensures { λ r. ⌜ r ≡ inTurn (entryJudged (now (s .entry))) (n .derived) ⌝ }
-{
-    let derived = n.derived as usize;
-    let mut d = 0;
-    let mut before = 0;
-    while d < derived {
-        let at = 16 + 17 * d;
-        let source = endian::read8(s, at);
-        if entry_refused(s, n, at, source, before) {
-            return 26;
-        }
-        before = source;
-        d += 1;
-    }
-    0
-}
-
 // The window of the row at `at`.
 pub fn read_window(s: &[u8], at: usize) -> Window
     requires { ⌜ at + 16 ≤ length (now s) ⌝ }
@@ -140,7 +119,7 @@ pub fn read_window(s: &[u8], at: usize) -> Window
 }
 
 // Whether a row is refused by itself.
-fn row_refused(n: Counts, derived: u32, w: Window) -> bool
+pub fn row_refused(n: Counts, derived: u32, w: Window) -> bool
     ensures { λ r. ⌜ r ≡ rowBad (n .derived) (n .cycle) (rowMade derived (windowGiven w)) ⌝ }
 {
     if n.derived <= derived {
@@ -159,7 +138,7 @@ fn row_refused(n: Counts, derived: u32, w: Window) -> bool
 }
 
 // Whether window w of source role q follows window v of source role r.
-fn window_follows(r: usize, v: Window, q: usize, w: Window) -> bool
+pub fn window_follows(r: usize, v: Window, q: usize, w: Window) -> bool
     ensures { λ b. ⌜ b ≡ follows r (windowGiven v) q (windowGiven w) ⌝ }
 {
     if r < q {
@@ -178,58 +157,4 @@ fn window_follows(r: usize, v: Window, q: usize, w: Window) -> bool
         return false;
     }
     v.offset as u32 + v.length as u32 <= w.offset as u32
-}
-
-// The first refusal of the rows, else 0.
-fn judge_rows(s: &[u8], n: Counts) -> u8
-    requires { ⌜ Headed (now s) n ⌝ }
-    ensures { λ r. ⌜ r ≡ inTurn (rowJudged (now (s .entry))) (n .rows) ⌝ }
-{
-    let first = 16 + 17 * (n.derived as usize);
-    let rows = n.rows as usize;
-    let mut i = 0;
-    let mut role = 0;
-    let mut before = Window {
-        begin: 0,
-        end: 0,
-        offset: 0,
-        length: 0,
-    };
-    while i < rows {
-        let at = first + 16 * i;
-        let derived = endian::read32(s, at);
-        let w = read_window(s, at);
-        if row_refused(n, derived, w) {
-            return 27;
-        }
-        let source = endian::read8(s, 16 + 17 * (derived as usize));
-        if window_follows(role, before, source, w) {
-            role = source;
-            before = w;
-            i += 1;
-        } else {
-            return 28;
-        }
-    }
-    0
-}
-
-// Reads a table: 21 to 28 in order, or its counts.
-pub fn read(s: &[u8]) -> TableAnswer
-    ensures { λ r. ⌜ tableGiven r ≡ readOutcome (now (s .entry)) ⌝ }
-{
-    match read_header(s) {
-        TableAnswer::Refused(code) => TableAnswer::Refused(code),
-        TableAnswer::Accepted(n) => {
-            let entry = judge_entries(s, n);
-            if entry != 0 {
-                return TableAnswer::Refused(entry);
-            }
-            let row = judge_rows(s, n);
-            if row != 0 {
-                return TableAnswer::Refused(row);
-            }
-            TableAnswer::Accepted(n)
-        }
-    }
 }

@@ -77,7 +77,7 @@ pub fn answer_in(s: &[u8], n: Counts, u: u32, p: u32, t: u32) -> Answer
 pub fn question(s: &[u8], u: u32, p: u32, t: u32) -> Answer
     ensures { λ r. ⌜ answerGiven r ≡ question (tableJudged (now (s .entry))) (policyOf (tableOf (now (s .entry)))) u p t ⌝ }
 {
-    match table::read(s) {
+    match table_reader::read(s) {
         TableAnswer::Refused(code) => Answer::Refused(code),
         TableAnswer::Accepted(n) => {
             let bad = policy::judge_arguments(n.users, n.permissions, u, p, t);

@@ -28,8 +28,8 @@ use Rattle.table.specs.Inside.{Opened}
 use Rattle.table.specs.declared.Counts.{Counts}
 use Rattle.table.proofs.HeaderLaws.{counts-are}
 use Rattle.table.proofs.FineLaws.{RowAlone, table-fine}
-use Rattle.table.proofs.RowsLaws.{RowAfter}
-use Rattle.table.proofs.TableTheorems.{in-order}
+use Rattle.table_reader.proofs.RowsLaws.{RowAfter}
+use Rattle.table_reader.proofs.TableTheorems.{in-order}
 use Rattle.rows.proofs.ReachedLaws.{reached-out, reached-not, rising, only}
 use Rattle.table_answers.proofs.AnswerLaws.{covering}
 use Rattle.table_spans.specs.Spans.{OneRole, Divided, Over, nextOffset, rowAt, SpanIs}

@@ -15,14 +15,14 @@ use lib.Dec.{ltb, leb}
 use Rattle.ground.specs.Partition.{Partitioned, PartitionPoint}
 use Rattle.ground.proofs.BoolLaws.{lt-or-le}
 use Rattle.ground.proofs.FromLaws.{IsFirst, first-is, is-first}
-use Rattle.endian.specs.Numbers.{u8At, u32At}
-use Rattle.table.specs.TableBytes.{rowsOf, rowAtByte, entryOf, rowOf}
+use Rattle.table.specs.TableBytes.{rowsOf, rowAtByte, rowOf}
 use Rattle.table.specs.TableRefusals.{sourceOf}
 use Rattle.table.specs.Inside.{Opened}
 use Rattle.table.specs.declared.Counts.{Counts}
 use Rattle.table.proofs.HeaderLaws.{counts-are}
 use Rattle.table.proofs.FineLaws.{TableFine, table-fine}
 use Rattle.table_answers.proofs.SourceLaws.{sources-up}
+use Rattle.row_times.specs.RowFirst.{roleAtByte}
 use Rattle.table_spans.specs.Spans.{roleFrom, OneRole}
 
 -- row i is of a role below r
@@ -64,17 +64,17 @@ module _ (s : List ℕ) (from r : ℕ) where
   unfolding roleFrom
   first-role k e = first-is from (rowsOf s) _ k e
 
--- the source of row i stands at e
-pub source-read : (s : List ℕ) (n : Counts) → Opened s n → (i e x : ℕ) → i < n .rows → x ≡ u8At s e
-    → e ≡ 16 + 17 * u32At s (16 + 17 * n .derived + 16 * i) → (x ≡ sourceOf s i) × (x < 32)
-source-read s n o i e x l ex ee =
+-- x was read as the source role of row i
+pub source-read : (s : List ℕ) (n : Counts) → Opened s n → (i x : ℕ) → i < n .rows → x ≡ roleAtByte s (16 + 17 * n .derived + 16 * i)
+    → (x ≡ sourceOf s i) × (x < 32)
+source-read s n o i x l e =
     let f = table-fine s (o .clear) in
     let b : i < rowsOf s = omega (arith, counts-are s n (o .counts) .rows) in
-    let q : x ≡ sourceOf s i = ex ∙ place in
+    let q : x ≡ sourceOf s i = e ∙ place in
     (q, omega (arith, f .entries _ (f .rows i b .alone .derived) .source, f .header .roles-most))
   where
-    place : u8At s e ≡ sourceOf s i
-    place = unfold rowOf in unfold entryOf in ap (u8At s) (rw (counts-are s n (o .counts) .derived) at ee)
+    place : roleAtByte s (16 + 17 * n .derived + 16 * i) ≡ sourceOf s i
+    place = unfold rowOf in ap (λ (d : ℕ). roleAtByte s (16 + 17 * d + 16 * i)) (counts-are s n (o .counts) .derived)
 
 -- the window of row i
 pub window-place : (s : List ℕ) (n : Counts) → Opened s n → (i : ℕ) → rowAtByte s (16 + 17 * n .derived + 16 * i) .window ≡ rowOf s i .window

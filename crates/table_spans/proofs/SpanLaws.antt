@@ -19,8 +19,8 @@ use Rattle.minutes.specs.Stretch.{Stretch}
 use Rattle.minutes.proofs.WindowLaws.{In, covers-in, in-covers}
 use Rattle.table.specs.TableBytes.{cycleOf, rowOf}
 use Rattle.table.specs.TableRefusals.{sourceOf, tableJudged}
-use Rattle.table.proofs.RowsLaws.{RowAfter}
-use Rattle.table.proofs.TableTheorems.{in-order, one-row}
+use Rattle.table_reader.proofs.RowsLaws.{RowAfter}
+use Rattle.table_reader.proofs.TableTheorems.{in-order, one-row}
 use Rattle.table_answers.proofs.AnswerLaws.{covering}
 use Rattle.table_spans.specs.Spans.{OneRole, rowAt}
 

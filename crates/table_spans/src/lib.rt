@@ -23,10 +23,7 @@ pub fn row_source(s: &[u8], n: Counts, i: usize) -> usize
     requires { ⌜ Opened (now s) n × (i < n .rows) ⌝ }
     ensures { λ r. ⌜ (r ≡ sourceOf (now (s .entry)) i) × (r < 32) ⌝ }
 {
-    endian::read8(
-        s,
-        table_answers::entry_place(s, 16 + 17 * (n.derived as usize) + 16 * i),
-    )
+    row_times::row_role(s, 16 + 17 * (n.derived as usize) + 16 * i)
 }
 
 // Of the rows from `from` on the first whose source role is not below `role`, or the number of rows: rows go by source role.

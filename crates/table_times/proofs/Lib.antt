@@ -1,3 +1,2 @@
-pub mod SpanLaws
-pub mod RowLaws
+pub mod IdleLaws
 pub mod PassLaws

@@ -33,12 +33,13 @@ use Rattle.table.specs.Inside.{Opened}
 use Rattle.table.specs.declared.Counts.{Counts}
 use Rattle.table.proofs.HeaderLaws.{counts-are}
 use Rattle.table.proofs.FineLaws.{TableFine, table-fine}
-use Rattle.table.proofs.RowsLaws.{RowAfter, rows-after}
+use Rattle.table_reader.proofs.RowsLaws.{RowAfter, rows-after}
 use Rattle.table_answers.specs.Grants.{rowGrants}
 use Rattle.table_answers.proofs.SourceLaws.{sources-up}
 use Rattle.table_answers.proofs.GrantLaws.{grants-parts}
 use Rattle.table_answers.proofs.AnswerLaws.{row-inside, grant-through, through-grant}
-use Rattle.table_times.specs.FirstUse.{RowReady, roleAtByte, rowFirst, grantsBelow, firstOfRows, idle, firstUse}
+use Rattle.row_times.specs.RowFirst.{RowReady, roleAtByte, rowFirst}
+use Rattle.table_times.specs.FirstUse.{grantsBelow, firstOfRows, idle, firstUse}
 
 pub row-ready : (s : List ℕ) (n : Counts) → Opened s n → (i : ℕ) → i < n .rows → RowReady s (16 + 17 * n .derived + 16 * i)
 unfolding rowOf

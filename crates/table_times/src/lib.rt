@@ -1,16 +1,15 @@
 // When a permission can next be used, by an accepted table: one pass over its rows.
 ghost use mathlib.Core.Path.{_≡_};
-ghost use Prim.Native.Nat.{_+_, _*_, _≤_, _<_, min, max};
-ghost use Rattle.ground.specs.From.{firstFrom};
-ghost use Rattle.minutes.specs.Minutes.{E, covers};
+ghost use Prim.Native.Nat.{_+_, _*_, _≤_, _<_, min};
+ghost use Rattle.minutes.specs.Minutes.{E};
 ghost use Rattle.policy.specs.NextUse.{nextUseQuestion};
 ghost use Rattle.table.specs.Table.{policyOf};
-ghost use Rattle.table.specs.TableBytes.{cycleOf, rowAtByte, tableOf};
+ghost use Rattle.table.specs.TableBytes.{tableOf};
 ghost use Rattle.table.specs.TableRefusals.{tableJudged};
 ghost use Rattle.table.specs.Inside.{Opened};
 ghost use Rattle.table_answers.specs.Grants.{RowInside};
 ghost use Rattle.table_times.specs.Next.{nextGiven};
-ghost use Rattle.table_times.specs.FirstUse.{RowReady, roleAtByte, rowFirst, firstOfRows, idle, firstUse};
+ghost use Rattle.table_times.specs.FirstUse.{firstOfRows, idle, firstUse};
 use table::Counts;
 use table::TableAnswer;
 
@@ -19,56 +18,6 @@ pub enum Next {
     At(u32),
     Never,
     Refused(u8),
-}
-
-// The later of two minutes.
-fn later(a: u32, b: u32) -> u32
-    ensures { λ r. ⌜ r ≡ max a b ⌝ }
-{
-    if a < b { b } else { a }
-}
-
-// The first minute from m on that the row at `at` covers, or END.
-fn row_next(s: &[u8], at: usize, cycle: u32, m: u32) -> u32
-    requires { ⌜ RowReady (now s) at × (cycle ≡ cycleOf (now s)) × (m ≤ E) ⌝ }
-    ensures { λ r. ⌜ r ≡ firstFrom m E (covers (cycleOf (now (s .entry))) (rowAtByte (now (s .entry)) at .window)) ⌝ }
-{
-    let w = table::read_window(s, at);
-    let offset = w.offset as u32;
-    let x = minutes::first_in(cycle, later(w.begin, m), offset, offset + w.length as u32);
-    if x < w.end { x } else { minutes::END }
-}
-
-// The first minute from m on and before `best` at which the row at `at` grants, or `best`. Dates are looked at first: most rows are over, or begin
-// too late.
-fn row_first(s: &[u8], at: usize, cycle: u32, u: u32, p: u32, m: u32, best: u32) -> u32
-    requires { ⌜ RowReady (now s) at × (cycle ≡ cycleOf (now s)) × (u < 64) × (p < 64) × (m ≤ E) × (best ≤ E) ⌝ }
-    ensures { λ r. ⌜ r ≡ rowFirst (now (s .entry)) u p m best at ⌝ }
-{
-    if best <= endian::read32(s, at + 4) {
-        return best;
-    }
-    if endian::read32(s, at + 8) <= m {
-        return best;
-    }
-    let e = table_answers::entry_place(s, at);
-    if bitset::contains(endian::read64(s, e + 1), u) {
-        if bitset::contains(endian::read64(s, e + 9), p) {
-            let x = row_next(s, at, cycle, m);
-            if x < best {
-                return x;
-            }
-        }
-    }
-    best
-}
-
-// The source role of the row at `at`.
-fn row_role(s: &[u8], at: usize) -> usize
-    requires { ⌜ RowInside (now s) at ⌝ }
-    ensures { λ r. ⌜ r ≡ roleAtByte (now (s .entry)) at ⌝ }
-{
-    endian::read8(s, table_answers::entry_place(s, at))
 }
 
 // The rows from the one at `at` to the one at `last` are of one role, and are over at m or begin at `best` or later.
@@ -81,7 +30,7 @@ fn is_idle(s: &[u8], at: usize, last: usize, m: u32, best: u32) -> bool
             return false;
         }
     }
-    row_role(s, at) == row_role(s, last)
+    row_times::row_role(s, at) == row_times::row_role(s, last)
 }
 
 // One more than the last row of the block of 64 that begins with row k.
@@ -112,9 +61,9 @@ fn pass_rows(
     let mut k = from;
     while k < to {
         let at = first + 16 * k;
-        let x = row_first(s, at, n.cycle, u, p, m, least);
+        let x = row_times::row_first(s, at, n.cycle, u, p, m, least);
         if x < least {
-            if row_role(s, at) < below as usize {
+            if row_times::row_role(s, at) < below as usize {
                 if x == m {
                     return x;
                 }
@@ -139,7 +88,7 @@ pub fn first_use(s: &[u8], n: Counts, u: u32, p: u32, m: u32, below: u32) -> u32
     while k < rows {
         let next = block_end(k, rows);
         let at = first + 16 * k;
-        if below as usize <= row_role(s, at) {
+        if below as usize <= row_times::row_role(s, at) {
             return best;
         }
         if !is_idle(s, at, first + 16 * (next - 1), m, best) {
@@ -157,7 +106,7 @@ pub fn first_use(s: &[u8], n: Counts, u: u32, p: u32, m: u32, below: u32) -> u32
 pub fn next_use(s: &[u8], u: u32, p: u32, m: u32) -> Next
     ensures { λ r. ⌜ nextGiven r ≡ nextUseQuestion (tableJudged (now (s .entry))) (policyOf (tableOf (now (s .entry)))) u p m ⌝ }
 {
-    match table::read(s) {
+    match table_reader::read(s) {
         TableAnswer::Refused(code) => Next::Refused(code),
         TableAnswer::Accepted(n) => {
             let bad = policy::judge_arguments(n.users, n.permissions, u, p, m);

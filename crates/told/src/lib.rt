@@ -5,15 +5,11 @@ ghost use Rattle.policy.specs.Policy.{answerGiven};
 ghost use Rattle.rota.specs.Answers.{rotaGiven};
 ghost use Rattle.table.specs.Answers.{tableGiven};
 ghost use Rattle.area.specs.Answers.{writtenGiven};
-ghost use Rattle.lent.specs.declared.Kind.the-variants as Kind;
-ghost use Rattle.machine.specs.Machine.{advance, «open», close, ask};
 ghost use Rattle.machine.specs.Answers.{advancedStep, changedStep, askedStep};
-ghost use Rattle.service.specs.LentStep.{lentStep};
 ghost use Rattle.told.specs.Told.{telling, questionTold, leaving, steppedBy, rotaTold, tableTold, writtenTold, dateTold, minuteTold};
 use area::Rewritten;
 use calendar::DateAnswer;
 use calendar::MinuteAnswer;
-use lent::Kind;
 use machine::Advanced;
 use machine::Asked;
 use machine::Changed;
@@ -264,53 +260,4 @@ pub fn tell_asked(a: Asked) -> Stepped
         Asked::No(after) => tell(after, 0, 0, 0),
         Asked::Refused(n, after) => tell(after, n as u32, 0, 0),
     }
-}
-
-// The calls by value with a rota and with a table, told, as the calls on a lent record use them.
-pub fn rota_advance_told(service: Service, s: &[u8], m: u32) -> Stepped
-    ensures { λ r. ⌜ leaving (r .service) (r .told) ≡ steppedBy (lentStep Kind.Rota (now (s .entry)) service (advance m)) ⌝ }
-{
-    tell_advanced(service::advance(Kind::Rota, s, service, m))
-}
-
-pub fn rota_open_told(service: Service, s: &[u8], u: u32) -> Stepped
-    ensures { λ r. ⌜ leaving (r .service) (r .told) ≡ steppedBy (lentStep Kind.Rota (now (s .entry)) service («open» u)) ⌝ }
-{
-    tell_changed(service::open(Kind::Rota, s, service, u))
-}
-
-pub fn rota_close_told(service: Service, s: &[u8], u: u32) -> Stepped
-    ensures { λ r. ⌜ leaving (r .service) (r .told) ≡ steppedBy (lentStep Kind.Rota (now (s .entry)) service (close u)) ⌝ }
-{
-    tell_changed(service::close(Kind::Rota, s, service, u))
-}
-
-pub fn rota_ask_told(service: Service, s: &[u8], u: u32, p: u32) -> Stepped
-    ensures { λ r. ⌜ leaving (r .service) (r .told) ≡ steppedBy (lentStep Kind.Rota (now (s .entry)) service (ask u p)) ⌝ }
-{
-    tell_asked(service::ask(Kind::Rota, s, service, u, p))
-}
-
-pub fn table_advance_told(service: Service, s: &[u8], m: u32) -> Stepped
-    ensures { λ r. ⌜ leaving (r .service) (r .told) ≡ steppedBy (lentStep Kind.Table (now (s .entry)) service (advance m)) ⌝ }
-{
-    tell_advanced(service::advance(Kind::Table, s, service, m))
-}
-
-pub fn table_open_told(service: Service, s: &[u8], u: u32) -> Stepped
-    ensures { λ r. ⌜ leaving (r .service) (r .told) ≡ steppedBy (lentStep Kind.Table (now (s .entry)) service («open» u)) ⌝ }
-{
-    tell_changed(service::open(Kind::Table, s, service, u))
-}
-
-pub fn table_close_told(service: Service, s: &[u8], u: u32) -> Stepped
-    ensures { λ r. ⌜ leaving (r .service) (r .told) ≡ steppedBy (lentStep Kind.Table (now (s .entry)) service (close u)) ⌝ }
-{
-    tell_changed(service::close(Kind::Table, s, service, u))
-}
-
-pub fn table_ask_told(service: Service, s: &[u8], u: u32, p: u32) -> Stepped
-    ensures { λ r. ⌜ leaving (r .service) (r .told) ≡ steppedBy (lentStep Kind.Table (now (s .entry)) service (ask u p)) ⌝ }
-{
-    tell_asked(service::ask(Kind::Table, s, service, u, p))
 }

@@ -5,7 +5,7 @@ use native.Mathlib.Omega.{arith}
 use mathlib.Core.Path.{_∙_}
 use mathlib.Core.Logic.{⊎-elim}
 use Rattle.hours.specs.Inside.{pairsHold}
-use Rattle.hours.proofs.WalkLaws.{Gathered, gather-none, gather-in, gather-out, gather-all}
+use Rattle.hours_reader.proofs.WalkLaws.{Gathered, gather-none, gather-in, gather-out, gather-all}
 use Rattle.rota.specs.RotaBytes.{headerLength}
 use Rattle.grid.proofs.RecordLaws.{walk-within, few-hours}
 use Rattle.grid.proofs.cell_mask.Statement.{statement}

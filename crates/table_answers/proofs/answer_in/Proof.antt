@@ -9,7 +9,7 @@ use Rattle.ground.proofs.SearchLaws.{any-none, any-more}
 use Rattle.ground.specs.Search.{anyBelow}
 use Rattle.table_answers.specs.Grants.{rowGrants}
 use Rattle.table_answers.proofs.AnswerLaws.{row-inside, phase-is, first-grants, none-grants}
-use Rattle.table.proofs.ReadLaws.{opened-header}
+use Rattle.table_reader.proofs.ReadLaws.{opened-header}
 use Rattle.table.proofs.HeaderLaws.{laid}
 use Rattle.table_answers.proofs.answer_in.Statement.{statement}
 use Rattle.table_answers.proofs.answer_in.Tie as tie

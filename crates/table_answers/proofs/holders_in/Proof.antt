@@ -6,7 +6,7 @@ use native.Mathlib.Nat.{le-antisymm}
 use borrow.Author.Needs.{needs}
 use Rattle.table_answers.proofs.HoldersLaws.{gathered, gather-none, gather-more, gather-all}
 use Rattle.table_answers.proofs.AnswerLaws.{row-inside, phase-is}
-use Rattle.table.proofs.ReadLaws.{opened-header}
+use Rattle.table_reader.proofs.ReadLaws.{opened-header}
 use Rattle.table.proofs.HeaderLaws.{laid}
 use Rattle.table_answers.proofs.holders_in.Statement.{statement}
 use Rattle.table_answers.proofs.holders_in.Tie as tie

@@ -4,7 +4,7 @@ use Rattle.policy.proofs.QuestionOutcome.{bytes-refused, numbers-refused, quest
 use Rattle.table.specs.Table.{policyOf}
 use Rattle.table.specs.TableBytes.{tableOf}
 use Rattle.table.specs.Answers.{tableGiven}
-use Rattle.table.proofs.ReadLaws.{closed, opened, arguments-as}
+use Rattle.table_reader.proofs.ReadLaws.{closed, opened, arguments-as}
 use Rattle.table_answers.proofs.question.Statement.{statement}
 use Rattle.table_answers.proofs.question.Tie as tie
 

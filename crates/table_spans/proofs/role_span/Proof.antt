@@ -1,4 +1,4 @@
-use Rattle.table.proofs.ReadLaws.{opened-header}
+use Rattle.table_reader.proofs.ReadLaws.{opened-header}
 use Rattle.table.proofs.HeaderLaws.{laid}
 use Rattle.table_spans.proofs.CaseLaws.{parts, rows-inside, divided-last, divided-none}
 use borrow.Author.Needs.{needs}

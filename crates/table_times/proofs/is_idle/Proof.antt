@@ -1,6 +1,6 @@
 use mathlib.Core.Logic.{inl, inr, ⊎-elim}
 use native.Mathlib.Omega.{arith}
-use Rattle.table_times.proofs.RowLaws.{not-idle, idle-one}
+use Rattle.table_times.proofs.IdleLaws.{not-idle, idle-one}
 use borrow.Author.Needs.{needs}
 use Rattle.table_times.proofs.is_idle.Statement.{statement}
 use Rattle.table_times.proofs.is_idle.Tie as tie

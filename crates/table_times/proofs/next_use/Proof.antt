@@ -6,7 +6,7 @@ use Rattle.policy.proofs.NextUseLaws.{bytes-refused, numbers-refused, next-give
 use Rattle.table.specs.Table.{policyOf}
 use Rattle.table.specs.TableBytes.{tableOf}
 use Rattle.table.specs.Answers.{tableGiven}
-use Rattle.table.proofs.ReadLaws.{closed, opened, arguments-as}
+use Rattle.table_reader.proofs.ReadLaws.{closed, opened, arguments-as}
 use Rattle.table_times.proofs.PassLaws.{next-some, next-never}
 use borrow.Author.Needs.{needs}
 use Rattle.table_times.proofs.next_use.Statement.{statement}

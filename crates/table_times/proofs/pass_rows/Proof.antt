@@ -5,7 +5,7 @@ use mathlib.Core.Logic.{⊎-elim}
 use native.Mathlib.Nat.{le-antisymm}
 use native.Mathlib.Omega.{arith}
 use borrow.Author.Needs.{needs}
-use Rattle.table.proofs.ReadLaws.{opened-header}
+use Rattle.table_reader.proofs.ReadLaws.{opened-header}
 use Rattle.table.proofs.HeaderLaws.{counts-are, laid}
 use Rattle.table_answers.proofs.AnswerLaws.{row-inside}
 use Rattle.table_times.specs.FirstUse.{firstOfRows}

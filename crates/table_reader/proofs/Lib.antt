@@ -1,0 +1,9 @@
+pub mod RowLaws
+pub mod ReadLaws
+pub mod FollowsLaws
+pub mod RowsLaws
+pub mod SpeltLaws
+pub mod ReadBackLaws
+pub mod WellLaws
+pub mod WidthLaws
+pub mod TableTheorems
