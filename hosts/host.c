@@ -18,6 +18,7 @@ _Static_assert(sizeof(softlode_rota) == 32 && offsetof(softlode_rota, right_rows
 _Static_assert(sizeof(softlode_table) == 28 && offsetof(softlode_table, rows) == 24, "softlode_table");
 _Static_assert(sizeof(softlode_written) == 24 && offsetof(softlode_written, length) == 16, "softlode_written");
 _Static_assert(sizeof(softlode_told) == 12 && offsetof(softlode_told, value) == 8, "softlode_told");
+_Static_assert(sizeof(softlode_next) == 12 && offsetof(softlode_next, minute) == 8, "softlode_next");
 _Static_assert(sizeof(softlode_service) == 16 && offsetof(softlode_service, open) == 8, "softlode_service");
 _Static_assert(sizeof(softlode_date_time) == 28 && offsetof(softlode_date_time, minute) == 24, "softlode_date_time");
 _Static_assert(sizeof(softlode_minute_number) == 8 && offsetof(softlode_minute_number, minute) == 4, "softlode_minute_number");
@@ -148,6 +149,33 @@ static void show_board(const struct host *host, softlode_rota counts, uint32_t m
     }
 }
 
+static void show_when(uint32_t minute, const char *after) {
+    printf(" on ");
+    show_date(minute);
+    printf("%s", after);
+}
+
+/* When each volunteer can next use each right, from a minute on, as a journey is planned: next Sunday's discard, or never again. */
+static void show_next(const struct host *host, softlode_rota counts, uint32_t minute) {
+    for (uint32_t volunteer = 0; volunteer < counts.volunteers; volunteer++) {
+        softlode_next last = {0, 0, 0};
+        show_date(minute);
+        printf(" volunteer %" PRIu32 " can", volunteer);
+        for (uint32_t right = 0; right < counts.rights; right++) {
+            softlode_next next = softlode_table_next(host->table, host->table_length, volunteer, right, minute);
+            if (!next.found) continue;
+            if (!question(host, volunteer, right, next.minute).yes) fail(1, "a next use that is none", "");
+            if (last.found && next.minute != last.minute) show_when(last.minute, ",");
+            printf("%s %" PRIu32, last.found ? "" : " next use rights", right);
+            last = next;
+        }
+        if (last.found)
+            show_when(last.minute, "\n");
+        else
+            printf(" use no right any more\n");
+    }
+}
+
 /* Damaged bytes and wrong numbers: each is one refusal, and leaves the record. */
 static void show_refusals(struct host *host, uint8_t *rota) {
     uint8_t small[8];
@@ -157,6 +185,7 @@ static void show_refusals(struct host *host, uint8_t *rota) {
     rota[0] ^= 0xff;
     show_refusal("an area of 8 bytes: ", softlode_rewrite(rota, host->rota_length, small, sizeof small).refusal);
     show_refusal("the table without its last byte: ", softlode_table_read(host->table, host->table_length - 1).refusal);
+    show_refusal("the next use by volunteer 256: ", softlode_table_next(host->table, host->table_length, 256, 0, 0).refusal);
     show_refusal("an open of volunteer 256: ", open_session(host, 256).refusal);
     show_refusal("an advance to minute 0: ", advance(host, 0).refusal);
     show_refusal("29 February 2023: ", softlode_minute(2023, 2, 29, 0, 0).refusal);
@@ -182,6 +211,7 @@ int main(int argc, char **argv) {
     uint32_t monday = softlode_minute(2024, 2, 26, 0, 0).minute;
     for (uint32_t hour = 0; hour < 7 * 24; hour++) spend_hour(&host, counts, monday + HOUR * hour);
     show_board(&host, counts, monday + 2 * DAY + 11 * HOUR);
+    show_next(&host, counts, monday + 7 * DAY);
     show_refusals(&host, rota);
     printf("%u advances closed %u; %u opens, %u closes, %u yes, %u no, %u refused; at ", host.advances, host.closed, host.opens, host.closes,
            host.yes, host.no, host.refused);

@@ -31,6 +31,7 @@
  *   rewriting          those of a rota, then 20
  *   reading a table    21, 22, 23, 24, 25; then each derived role in turn 26; then each row in turn 27, 28
  *   a question         those of the bytes, then 33, 34, 35
+ *   the next use       those of a table, then 33, 34, 35
  *   a service call     those of the bytes, then 40; then advance 33, 41; open 34, 42, 43; close 34, 44; ask 34, 35, 44
  *   the calendar       33 for a minute; 50 for a date and time
  */
@@ -82,6 +83,13 @@ typedef struct softlode_told {
     uint32_t value;       /* a yes: the lowest role that grants it; an advance: how many sessions it closed */
 } softlode_told;
 
+/* When a volunteer can next use a right. */
+typedef struct softlode_next {
+    uint32_t refusal;
+    uint32_t found;       /* 1; 0 for none before the end of 2400 */
+    uint32_t minute;      /* the first such minute; 0 for none */
+} softlode_next;
+
 /*
  * The service record. The host keeps one, starts it as { 0, 0 }, and lends it to each call: no call needs another. Its two fields may be
  * read, stored and restored at any time between calls (the bytes between them mean nothing); a record that does not fit the lent bytes is
@@ -118,6 +126,13 @@ softlode_table softlode_table_read(const uint8_t *table, size_t length);
 /* May the volunteer use the right at the minute? Yes with the lowest role, no, or the bytes' refusals, 33, 34, 35. */
 softlode_told softlode_rota_question(const uint8_t *rota, size_t length, uint32_t volunteer, uint32_t right, uint32_t minute);
 softlode_told softlode_table_question(const uint8_t *table, size_t length, uint32_t volunteer, uint32_t right, uint32_t minute);
+
+/*
+ * When can the volunteer next use the right, by the table? The first minute from `minute` on, that one included, at which a question would be
+ * a yes, or none before the end of 2400; or the table's refusals, 33, 34, 35. It takes little longer than reading the table, however far
+ * ahead that minute is.
+ */
+softlode_next softlode_table_next(const uint8_t *table, size_t length, uint32_t volunteer, uint32_t right, uint32_t minute);
 
 /*
  * Rewrites a rota to its table, at the start of the output area. Bytes of the area past the table's length stay as they are. 1 to 12, or 20

@@ -2,3 +2,4 @@ pub mod MachineLaws
 pub mod Agreement
 pub mod Pinned
 pub mod Worked
+pub mod NextUseAgreed

@@ -3,6 +3,7 @@ ghost use mathlib.Core.Path.{_≡_};
 ghost use lib.ListN.{length};
 ghost use Rattle.calendar.specs.Calendar.{dateOf, minuteOf};
 ghost use Rattle.policy.specs.Policy.{question};
+ghost use Rattle.policy.specs.NextUse.{nextUseQuestion};
 ghost use Rattle.rota.specs.Rota.{policyOf as rotaPolicy};
 ghost use Rattle.rota.specs.RotaBytes.{rotaOf};
 ghost use Rattle.rota.specs.RotaRefusals.{rotaJudged};
@@ -15,10 +16,11 @@ ghost use Rattle.derivation.specs.Rewriting.{rewriteOutcome, areaAfter};
 ghost use Rattle.lent.specs.declared.Kind.the-variants as Kind;
 ghost use Rattle.machine.specs.Machine.{advance, «open», close, ask};
 ghost use Rattle.service.specs.LentStep.{lentStep};
-ghost use Rattle.told.specs.Told.{questionTold, leaving, steppedBy, rotaTold, tableTold, writtenTold, dateTold, minuteTold};
+ghost use Rattle.told.specs.Told.{questionTold, nextTold, leaving, steppedBy, rotaTold, tableTold, writtenTold, dateTold, minuteTold};
 use machine::Service;
 use told::DateTold;
 use told::MinuteTold;
+use told::NextTold;
 use told::RotaTold;
 use told::TableTold;
 use told::Told;
@@ -79,6 +81,14 @@ pub extern "C" fn softlode_table_question(s: &[u8], u: u32, p: u32, t: u32) -> T
     ensures { λ r. ⌜ r ≡ questionTold (question (tableJudged (now (s .entry))) (tablePolicy (tableOf (now (s .entry)))) u p t) ⌝ }
 {
     told::tell_answer(table_answers::question(s, u, p, t))
+}
+
+// When a permission can next be used, by a table.
+#[no_mangle]
+pub extern "C" fn softlode_table_next(s: &[u8], u: u32, p: u32, m: u32) -> NextTold
+    ensures { λ r. ⌜ r ≡ nextTold (nextUseQuestion (tableJudged (now (s .entry))) (tablePolicy (tableOf (now (s .entry)))) u p m) ⌝ }
+{
+    told::tell_next(table_times::next_use(s, u, p, m))
 }
 
 // The four calls on a lent record, with a rota and with a table.

@@ -14,6 +14,7 @@ use Rattle.told.specs.declared.WrittenTold.{WrittenTold}
 use Rattle.told.specs.declared.DateTold.{DateTold}
 use Rattle.told.specs.declared.MinuteTold.{MinuteTold}
 use Rattle.told.specs.declared.Told.{Told}
+use Rattle.told.specs.declared.NextTold.{NextTold}
 use Rattle.told.specs.declared.Stepped.{Stepped}
 
 abbrev pub rotaTold : Outcome rota.Counts → RotaTold
@@ -47,6 +48,12 @@ answerTold (some r) = telling 0 1 r
 abbrev pub questionTold : Outcome (Option ℕ) → Told
 questionTold (refused n) = telling n 0 0
 questionTold (given o) = answerTold o
+
+-- 1 with the minute of the next use (document 02, item 1)
+abbrev pub nextTold : Outcome (Option ℕ) → NextTold
+nextTold (refused n) = record { refusal = n; found = 0; minute = 0 }
+nextTold (given none) = record { refusal = 0; found = 0; minute = 0 }
+nextTold (given (some t)) = record { refusal = 0; found = 1; minute = t }
 
 -- a call tells the count of an advance, or an answer
 abbrev pub giftTold : Gift → Told

@@ -6,7 +6,8 @@ ghost use Rattle.rota.specs.Answers.{rotaGiven};
 ghost use Rattle.table.specs.Answers.{tableGiven};
 ghost use Rattle.area.specs.Answers.{writtenGiven};
 ghost use Rattle.machine.specs.Answers.{advancedStep, changedStep, askedStep};
-ghost use Rattle.told.specs.Told.{telling, questionTold, leaving, steppedBy, rotaTold, tableTold, writtenTold, dateTold, minuteTold};
+ghost use Rattle.table_times.specs.Next.{nextGiven};
+ghost use Rattle.told.specs.Told.{telling, questionTold, nextTold, leaving, steppedBy, rotaTold, tableTold, writtenTold, dateTold, minuteTold};
 use area::Rewritten;
 use calendar::DateAnswer;
 use calendar::MinuteAnswer;
@@ -17,6 +18,7 @@ use machine::Service;
 use policy::Answer;
 use rota::RotaAnswer;
 use table::TableAnswer;
+use table_times::Next;
 
 // What reading a rota tells: the counts of its header.
 #[repr(C)]
@@ -210,6 +212,36 @@ pub fn tell_answer(a: Answer) -> Told
             refusal: n as u32,
             yes: 0,
             value: 0,
+        },
+    }
+}
+
+// What is told of the next use of a permission: 1 and its minute, or 0 and 0 for none before the end of 2400.
+#[repr(C)]
+pub struct NextTold {
+    pub refusal: u32,
+    pub found: u32,
+    pub minute: u32,
+}
+
+pub fn tell_next(a: Next) -> NextTold
+    ensures { λ r. ⌜ r ≡ nextTold (nextGiven a) ⌝ }
+{
+    match a {
+        Next::At(t) => NextTold {
+            refusal: 0,
+            found: 1,
+            minute: t,
+        },
+        Next::Never => NextTold {
+            refusal: 0,
+            found: 0,
+            minute: 0,
+        },
+        Next::Refused(n) => NextTold {
+            refusal: n as u32,
+            found: 0,
+            minute: 0,
         },
     }
 }

@@ -3,8 +3,8 @@
 //! comes to, and stores the worst of all where it is told to.
 //!
 //! What is timed is one of: rewrite, into 40 MB; refuse, the same into 64 KiB, where that gives
-//! 20; read, question, advance, on the rota; table-read, table-question, table-advance, on its
-//! table.
+//! 20; read, question, advance, on the rota; table-read, table-question, table-next,
+//! table-advance, on its table.
 
 use std::hint::black_box;
 use std::time::{Duration, Instant};
@@ -28,7 +28,7 @@ fn minutes() -> impl Iterator<Item = u32> {
     (1..=ASKED).map(|i| END / 8 * i + 5_003 * i)
 }
 
-fn questions(ask: impl Fn(u32, u32, u32) -> ffi::rota::Answered) {
+fn questions<T>(ask: impl Fn(u32, u32, u32) -> T) {
     for (i, minute) in (0..).zip(minutes()) {
         black_box(ask(9 * i, 9 * i, minute));
     }
@@ -48,7 +48,7 @@ struct Search {
 impl Search {
     /// Seconds of what is timed, on this rota: the quickest of so many rounds.
     fn seconds(&mut self, rota: &[u8], times: u32) -> f64 {
-        let asked = self.what.ends_with("question") || self.what.ends_with("advance");
+        let asked = ["question", "next", "advance"].iter().any(|what| self.what.ends_with(what));
         self.round(rota, times) / if asked { ASKED.into() } else { 1.0 }
     }
 
@@ -71,6 +71,9 @@ impl Search {
             "table-read" => quickest(times, || ffi::table::read(table)),
             "table-question" => {
                 quickest(times, || questions(|u, p, t| ffi::table::question(table, u, p, t)))
+            }
+            "table-next" => {
+                quickest(times, || questions(|u, p, m| ffi::table::next_use(table, u, p, m)))
             }
             "table-advance" => quickest(times, || advances(on_table)),
             "rewrite" => quickest(times, || {

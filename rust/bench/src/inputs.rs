@@ -29,6 +29,8 @@ pub struct Input {
     /// The set of all users.
     pub everyone: u64,
     questions: Vec<Question>,
+    /// The table with user 0 in hardly a derived role.
+    pub without_user: Vec<u8>,
 }
 
 impl Input {
@@ -61,12 +63,23 @@ impl Input {
             rows: table.rows.len(),
             everyone: set::below(table.users.into()),
             questions,
+            without_user: without_user(table).encode(),
         }
     }
 
     pub fn question(&self, i: usize) -> Question {
         self.questions[i % QUESTIONS]
     }
+}
+
+/// The table with user 0 in no derived role that has another user: where a user can use nothing,
+/// or next to nothing, every row has to be looked at.
+fn without_user(table: &Table) -> Table {
+    let mut other = table.clone();
+    for entry in other.derived.iter_mut().filter(|entry| entry.users != 1) {
+        entry.users &= !1;
+    }
+    other
 }
 
 /// As long as the table with the most rows, of derived roles alone.

@@ -135,6 +135,25 @@ fn table(input: &Input, report: &mut Report) {
         |i| Table::read(black_box(bytes)).and_then(|table| holders(&table, minute(i))),
     );
     report.print("table holders", name, times);
+    let times = next_use_times(bytes, |i| input.question(i));
+    report.print("table next", name, times);
+    // Hardly a row begins too late to matter.
+    let first = |i| Question { user: 0, minute: 0, ..input.question(i) };
+    report.print("table next, none", name, next_use_times(&input.without_user, first));
+}
+
+fn next_use_times(bytes: &[u8], question: impl Fn(usize) -> Question) -> Times {
+    time(
+        |i| {
+            let Question { user, permission, minute } = question(i);
+            ffi::table::next_use(black_box(bytes), user, permission, minute)
+        },
+        |i| {
+            let Question { user, permission, minute } = question(i);
+            let table = Table::read(black_box(bytes));
+            table.and_then(|table| table.next_use(user, permission, minute))
+        },
+    )
 }
 
 /// Into an area of the table's size, and into one of 64 KiB if that is too small for it.

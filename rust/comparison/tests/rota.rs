@@ -2,7 +2,7 @@
 
 use cases::case::{Case, Tally, tallied};
 use cases::{data, generate};
-use comparison::compare::asked::{self, compare_all, compare_read};
+use comparison::compare::asked::{self, compare_all, compare_question, compare_read};
 use comparison::compare::rota;
 use comparison::ffi;
 use reference::END;
@@ -141,14 +141,18 @@ fn well_formed_rotas() {
 
 #[test]
 fn small_rotas_minute_by_minute() {
-    tallied("small_rotas_minute_by_minute", 150, asked::minute_by_minute::<Rota>)
+    tallied("small_rotas_minute_by_minute", 150, asked::minute_by_minute(compare_question::<Rota>))
         .reached([0, 33, 34, 35]);
 }
 
 #[test]
 fn questions_at_and_over_their_limits() {
-    tallied("questions_at_and_over_their_limits", 300, asked::at_and_over_limits::<Rota>)
-        .reached([0, 33, 34, 35]);
+    tallied(
+        "questions_at_and_over_their_limits",
+        300,
+        asked::at_and_over_limits(compare_question::<Rota>),
+    )
+    .reached([0, 33, 34, 35]);
 }
 
 #[test]

@@ -2,8 +2,8 @@
 
 use cases::case::{Case, Tally, tallied};
 use cases::{data, generate};
-use comparison::compare::asked::{self, compare_read};
-use comparison::compare::table;
+use comparison::compare::asked::{self, compare_question, compare_read};
+use comparison::compare::table::{self, compare_next_use};
 use comparison::{expected, ffi};
 use reference::END;
 use reference::rewriting;
@@ -147,6 +147,9 @@ fn largest_rewritten_tables() {
             assert_eq!(proved, expected, "seed {} case {number} minute {t}", case.seed);
             let expected = expected::table::holders(&lent.parsed, t);
             assert_eq!(ffi::table::holders(&lent.bytes, t), expected, "case {number} minute {t}");
+            let expected = expected::table::next_use(&lent.parsed, user, permission, t);
+            let proved = ffi::table::next_use(&lent.bytes, user, permission, t);
+            assert_eq!(proved, expected, "seed {} case {number} from {t}", case.seed);
         }
     }
     tally.reached([0]);
@@ -154,14 +157,22 @@ fn largest_rewritten_tables() {
 
 #[test]
 fn small_tables_minute_by_minute() {
-    tallied("small_tables_minute_by_minute", 150, asked::minute_by_minute::<Table>)
-        .reached([0, 33, 34, 35]);
+    tallied(
+        "small_tables_minute_by_minute",
+        150,
+        asked::minute_by_minute(compare_question::<Table>),
+    )
+    .reached([0, 33, 34, 35]);
 }
 
 #[test]
 fn questions_at_and_over_their_limits() {
-    tallied("questions_at_and_over_their_limits", 300, asked::at_and_over_limits::<Table>)
-        .reached([0, 33, 34, 35]);
+    tallied(
+        "questions_at_and_over_their_limits",
+        300,
+        asked::at_and_over_limits(compare_question::<Table>),
+    )
+    .reached([0, 33, 34, 35]);
 }
 
 #[test]
@@ -181,4 +192,93 @@ fn every_byte_changed() {
 fn several_faults() {
     tallied("several_faults", 50_000, table::several_faults)
         .reached((0..=0).chain(21..=28).chain([33, 34, 35]));
+}
+
+/// The next use of permission 0 by user 0 from a minute, on a table of one derived role for each of
+/// these lists of rows, which are begin, end, offset and length.
+fn next_from(cycle: u16, roles: &[&[(u32, u32, u16, u16)]], m: u32) -> Option<u32> {
+    let entry = |source| DerivedRole { source, users: 1, permissions: 1 };
+    let derived = (0..).zip(roles).map(|(source, _)| entry(source)).collect();
+    let row =
+        |derived, &(begin, end, offset, length): &_| Row { derived, begin, end, offset, length };
+    let rows = (0..).zip(roles).flat_map(|(d, rows)| rows.iter().map(move |r| row(d, r))).collect();
+    let table = Table { cycle, users: 2, permissions: 2, roles: 32, derived, rows };
+    let bytes = table.encode();
+    for (user, permission) in [(0, 1), (1, 0)] {
+        let none = ffi::table::next_use(&bytes, user, permission, m);
+        assert_eq!((none.refusal, none.found, none.minute), (0, 0, 0), "nobody else");
+    }
+    let next = ffi::table::next_use(&bytes, 0, 0, m);
+    assert_eq!(
+        (next.refusal, table.next_use(0, 0, m)),
+        (0, Ok((next.found == 1).then_some(next.minute)))
+    );
+    (next.found == 1).then_some(next.minute)
+}
+
+#[test]
+fn worked_next_uses() {
+    let small = small().encode();
+    let next = |user, m| {
+        let next = ffi::table::next_use(&small, user, 0, m);
+        assert_eq!(next.refusal, 0);
+        (next.found == 1).then_some(next.minute)
+    };
+    assert_eq!([0, 4, 8, 19].map(|m| next(0, m)), [Some(0), Some(6), Some(10), None]);
+    assert_eq!([0, 36, 37].map(|m| next(1, m)), [Some(12), Some(36), None]);
+    let refusal = |user, permission, m| ffi::table::next_use(&small, user, permission, m).refusal;
+    assert_eq!(refusal(1, 0, END - 1), 0);
+    assert_eq!([refusal(2, 1, END), refusal(2, 1, END - 1), refusal(1, 1, END - 1)], [33, 34, 35]);
+    assert_eq!(ffi::table::next_use(&small[..15], 2, 1, END).refusal, 21);
+
+    // A phase before the cell, in it and behind it; an end inside the cell, and before it.
+    let cell = |end| move |m| next_from(10, &[&[(0, end, 2, 3)]], m);
+    assert_eq!([1, 2, 4, 5, 7, 9].map(cell(100)), [2, 2, 4, 12, 12, 12].map(Some));
+    assert_eq!([94, 95].map(cell(104)), [Some(94), Some(102)]);
+    assert_eq!([95, 101, 102, 103].map(cell(103)), [Some(102), Some(102), Some(102), None]);
+    assert_eq!([94, 95, 101].map(cell(102)), [Some(94), None, None]);
+    // A begin inside the cell, and behind it.
+    assert_eq!(next_from(10, &[&[(3, 100, 2, 3)]], 0), Some(3));
+    assert_eq!(next_from(10, &[&[(7, 100, 2, 3)]], 0), Some(12));
+    assert_eq!(next_from(10, &[&[(7, 12, 2, 3)]], 0), None, "no minute of its own");
+    // The least minute, not the first row's: later rows of a role, and other roles.
+    assert_eq!(next_from(10, &[&[(50, 60, 0, 1)], &[(10, 60, 9, 1)]], 0), Some(19));
+    assert_eq!(next_from(10, &[&[(0, 60, 0, 1), (0, 60, 5, 1)]], 11), Some(15));
+    assert_eq!(next_from(10, &[&[(0, 60, 0, 1), (0, 60, 5, 1)]], 16), Some(20));
+    // Cycles of 1 and 40,320; the last minutes, in a cycle that is cut short.
+    assert_eq!([0, 6, 7].map(|m| next_from(1, &[&[(5, 7, 0, 1)]], m)), [Some(5), Some(6), None]);
+    assert_eq!(next_from(1, &[&[(0, END, 0, 1)]], END - 1), Some(END - 1));
+    let last_minute = |m| next_from(40_320, &[&[(0, END, 40_319, 1)]], m);
+    assert_eq!([0, 40_319, 40_320].map(last_minute), [40_319, 40_319, 80_639].map(Some));
+    let whole = END - END % 40_320;
+    assert_eq!([whole - 1, whole, END - 1].map(last_minute), [Some(whole - 1), None, None]);
+    let first_minute = |m| next_from(40_320, &[&[(0, END, 0, 1)]], m);
+    assert_eq!([whole, whole + 1].map(first_minute), [Some(whole), None]);
+    // Nothing to use.
+    assert_eq!(next_from(10, &[&[]], 0), None);
+    assert_eq!(next_from(10, &[], 0), None);
+}
+
+#[test]
+fn next_uses() {
+    tallied("next_uses", 20_000, table::next_uses)
+        .reached([0, 33, 34, 35])
+        .also(&["now", "later", "never"]);
+}
+
+#[test]
+fn next_uses_by_questions() {
+    tallied("next_uses_by_questions", 300, table::next_uses_by_questions).reached([0]);
+}
+
+#[test]
+fn next_uses_minute_by_minute() {
+    tallied("next_uses_minute_by_minute", 150, asked::minute_by_minute(compare_next_use))
+        .reached([0, 33, 34, 35]);
+}
+
+#[test]
+fn next_uses_at_and_over_their_limits() {
+    tallied("next_uses_at_and_over_their_limits", 100, asked::at_and_over_limits(compare_next_use))
+        .reached([0, 33, 34, 35]);
 }

@@ -121,6 +121,38 @@ impl Host<'_> {
         Ok(())
     }
 
+    /// When each volunteer can next use each right, from a minute on, as a journey is planned: next
+    /// Sunday's discard, or never again.
+    fn show_next(&mut self, minute: u32) -> Result<(), Refusal> {
+        let (counts, now) = (self.rota.counts(), date(minute)?);
+        for volunteer in 0..counts.volunteers {
+            let (mut uses, mut last) = (String::new(), None);
+            for right in 0..counts.rights {
+                let next = self.table.next_use(volunteer, right, minute)?;
+                let Some(at) = next else { continue };
+                let told = self.rota.may(volunteer, right, at);
+                let told = agreed(told, self.table.may(volunteer, right, at))?;
+                assert!(told.is_some(), "a next use that is none");
+                if let Some(before) = last.filter(|&before| before != at) {
+                    uses += &format!(" on {},", date(before)?);
+                }
+                uses += &format!(" {right}");
+                last = next;
+            }
+            match last {
+                Some(at) => {
+                    say!(
+                        self.text,
+                        "{now} volunteer {volunteer} can next use rights{uses} on {}",
+                        date(at)?
+                    )
+                }
+                None => say!(self.text, "{now} volunteer {volunteer} can use no right any more"),
+            }
+        }
+        Ok(())
+    }
+
     fn show_refusal<T>(&mut self, what: &str, given: Result<T, Refusal>) {
         let told: &dyn Display = match &given {
             Ok(_) => &"accepted",
@@ -139,6 +171,7 @@ impl Host<'_> {
         self.show_refusal("an area of 8 bytes", self.rota.rewrite(&mut [0; 8]));
         let short = &table[..table.len() - 1];
         self.show_refusal("the table without its last byte", Table::read(short));
+        self.show_refusal("the next use by volunteer 256", self.table.next_use(256, 0, 0));
         let told = self.call(|service, lent| service.open(lent, 256));
         self.show_refusal("an open of volunteer 256", told);
         let told = self.call(|service, lent| service.advance(lent, 0));
@@ -186,6 +219,7 @@ fn week(file: &[u8]) -> Result<String, Refusal> {
         host.spend_hour(monday + HOUR * hour)?;
     }
     host.show_board(monday + 2 * DAY + 11 * HOUR)?;
+    host.show_next(monday + 7 * DAY)?;
     host.show_refusals();
     let Host { service, advances, closed, opens, closes, yes, no, refused, mut text, .. } = host;
     say!(

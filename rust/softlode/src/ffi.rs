@@ -47,6 +47,20 @@ impl Told<Answer> {
     }
 }
 
+/// The values of the next use.
+#[repr(C)]
+pub struct NextUse {
+    found: u32,
+    minute: u32,
+}
+
+impl Told<NextUse> {
+    /// The minute, where there is one.
+    pub fn minute(self) -> Result<Option<u32>, Refusal> {
+        self.values().map(|next| (next.found != 0).then_some(next.minute))
+    }
+}
+
 /// Its length has 64 bits, so it lies flat.
 #[repr(C)]
 pub struct WrittenTold {
@@ -66,6 +80,7 @@ unsafe extern "C" {
     fn softlode_table_read(table: *const u8, length: usize) -> Told<TableCounts>;
     fn softlode_rota_question(rota: *const u8, length: usize, volunteer: u32, right: u32, minute: u32) -> Told<Answer>;
     fn softlode_table_question(table: *const u8, length: usize, volunteer: u32, right: u32, minute: u32) -> Told<Answer>;
+    fn softlode_table_next(table: *const u8, length: usize, volunteer: u32, right: u32, minute: u32) -> Told<NextUse>;
     fn softlode_rewrite(rota: *const u8, length: usize, area: *mut u8, size: usize) -> WrittenTold;
     fn softlode_rota_advance(service: *mut Service, rota: *const u8, length: usize, minute: u32) -> Told<Answer>;
     fn softlode_table_advance(service: *mut Service, table: *const u8, length: usize, minute: u32) -> Told<Answer>;
@@ -107,6 +122,11 @@ pub fn question(lent: Lent, volunteer: u32, right: u32, minute: u32) -> Told<Ans
         choose::<Question>(lent, softlode_rota_question, softlode_table_question);
     // SAFETY: the bytes are lent for the time of the call.
     unsafe { function(bytes.as_ptr(), bytes.len(), volunteer, right, minute) }
+}
+
+pub fn table_next(table: &[u8], volunteer: u32, right: u32, minute: u32) -> Told<NextUse> {
+    // SAFETY: the bytes are lent for the time of the call.
+    unsafe { softlode_table_next(table.as_ptr(), table.len(), volunteer, right, minute) }
 }
 
 fn call(service: &mut Service, lent: Lent, rota: Call, table: Call, number: u32) -> Told<Answer> {
@@ -154,6 +174,7 @@ mod tests {
         assert_eq!(size_of::<Told<RotaCounts>>(), 32);
         assert_eq!(size_of::<Told<TableCounts>>(), 28);
         assert_eq!(size_of::<Told<Answer>>(), 12);
+        assert_eq!(size_of::<Told<NextUse>>(), 12);
         assert_eq!(size_of::<Told<DateTime>>(), 28);
         assert_eq!(size_of::<Told<u32>>(), 8);
         assert_eq!(offset_of!(Told<Answer>, values), 4);
@@ -177,6 +198,7 @@ mod tests {
             for question in [softlode_rota_question as Question, softlode_table_question] {
                 assert!(matches!(told(question(null(), 0, 0, 0, 0)), Err(1 | 21)));
             }
+            assert_eq!(softlode_table_next(null(), 0, 0, 0, 0).refusal, 21);
             for ask in [softlode_rota_ask as Ask, softlode_table_ask] {
                 assert!(matches!(told(ask(&mut service, null(), 0, 0, 0)), Err(1 | 21)));
             }

@@ -204,6 +204,31 @@ impl<'a> Table<'a> {
     pub fn may(&self, volunteer: u32, right: u32, minute: u32) -> Result<Option<u32>, Refusal> {
         Lent::from(self).may(volunteer, right, minute)
     }
+
+    /// When can the volunteer next use the right? The first minute from `minute` on, that one
+    /// included, at which [`may`](Table::may) would be a yes, or `None` if there is none before the
+    /// end of 2400; or 33, 34, 35. It takes little longer than [`read`](Table::read), however far
+    /// ahead that minute is.
+    ///
+    /// ```
+    /// use softlode::{Refusal, Table, date, minute};
+    ///
+    /// let table = Table::read(include_bytes!("../../../data/week.table"))?;
+    /// // Volunteer 5 is a discarder, and right 8 is to discard a record.
+    /// let next = table.next_use(5, 8, minute(2024, 2, 26, 9, 0)?)?;
+    /// assert_eq!(date(next.unwrap())?.to_string(), "Sun 2024-03-03 14:00");
+    /// // Volunteer 0 never is.
+    /// assert_eq!(table.next_use(0, 8, 0)?, None);
+    /// # Ok::<(), Refusal>(())
+    /// ```
+    pub fn next_use(
+        &self,
+        volunteer: u32,
+        right: u32,
+        minute: u32,
+    ) -> Result<Option<u32>, Refusal> {
+        ffi::table_next(self.bytes, volunteer, right, minute).minute()
+    }
 }
 
 impl<'a> From<&Rota<'a>> for Lent<'a> {

@@ -16,6 +16,10 @@
 //! service.open(&table, 0)?;
 //! assert_eq!(service.ask(&table, 0, 4)?, Some(2));
 //! assert_eq!(date(service.now)?.to_string(), "Mon 2024-02-26 09:00");
+//!
+//! // When can volunteer 5 next discard a record, which is right 8?
+//! let next = table.next_use(5, 8, service.now)?.expect("discarders have their Sundays");
+//! assert_eq!(date(next)?.to_string(), "Sun 2024-03-03 14:00");
 //! # Ok::<(), Refusal>(())
 //! ```
 

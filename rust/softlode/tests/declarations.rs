@@ -18,11 +18,12 @@ const WRAPPER: &str = concat!(
 );
 
 /// The structs as the header, the proved crates and the wrapper name them.
-const STRUCTS: [[&str; 3]; 7] = [
+const STRUCTS: [[&str; 3]; 8] = [
     ["softlode_rota", "RotaTold", "Told<RotaCounts>"],
     ["softlode_table", "TableTold", "Told<TableCounts>"],
     ["softlode_written", "WrittenTold", "WrittenTold"],
     ["softlode_told", "Told", "Told<Answer>"],
+    ["softlode_next", "NextTold", "Told<NextUse>"],
     ["softlode_service", "Service", "Service"],
     ["softlode_date_time", "DateTold", "Told<DateTime>"],
     ["softlode_minute_number", "MinuteTold", "Told<u32>"],
@@ -138,7 +139,7 @@ fn c_functions() -> Vec<Function> {
 #[test]
 fn the_same_functions() {
     let expected = c_functions();
-    assert_eq!(expected.len(), 15);
+    assert_eq!(expected.len(), 16);
     let kinds = [
         ("&[u8]", "bytes size"),
         ("&mut [u8]", "area size"),

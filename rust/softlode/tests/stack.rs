@@ -149,6 +149,11 @@ fn of_every_other_call() {
             let table = rewritten.map_or(&[][..], |written| written.bytes);
             all.push(stack_of(NEAR, || Rota::read(&rota)));
             all.push(stack_of(NEAR, || Table::read(table)));
+            if let Ok(table) = Table::read(table) {
+                for from in [0, 12_008_160, 105_189_840] {
+                    all.push(stack_of(NEAR, || table.next_use(0, 0, from)));
+                }
+            }
             for lent in [Lent::Rota(&rota), Lent::Table(table)] {
                 for at in [0, 12_008_160, 105_189_840] {
                     let mut service = Service::fresh();

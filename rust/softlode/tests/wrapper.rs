@@ -76,6 +76,22 @@ fn numbers_do_not_wrap() {
 }
 
 #[test]
+fn the_next_use_of_the_small_table() {
+    let table = Table::read(SMALL_TABLE).unwrap();
+    let from = |volunteer, minute| table.next_use(volunteer, 0, minute).unwrap();
+    assert_eq!([0, 4, 8, 19].map(|minute| from(0, minute)), [Some(0), Some(6), Some(10), None]);
+    assert_eq!([0, 36, 37].map(|minute| from(1, minute)), [Some(12), Some(36), None]);
+    assert_eq!(from(1, LAST_MINUTE), None);
+    for minute in [LAST_MINUTE + 1, 1 << 31, u32::MAX] {
+        assert_eq!(table.next_use(2, 1, minute), Err(Refusal::NO_SUCH_MINUTE));
+    }
+    for number in [2].into_iter().chain(TOO_HIGH) {
+        assert_eq!(table.next_use(number, number, 0), Err(Refusal::NO_SUCH_VOLUNTEER));
+        assert_eq!(table.next_use(0, number, 0), Err(Refusal::NO_SUCH_RIGHT));
+    }
+}
+
+#[test]
 fn a_refused_call_leaves_the_record() {
     for lent in [Lent::Rota(SMALL), Lent::Table(SMALL_TABLE)] {
         let given = Service { now: 3, open: 1 };

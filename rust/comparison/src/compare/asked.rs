@@ -53,6 +53,9 @@ impl<K: Kind> Lent<K> {
     }
 }
 
+/// Compares what is asked of the bytes with a user, a permission and a minute.
+pub type Ask<K> = fn(&Case, &mut Tally, &Lent<K>, u32, u32, u32);
+
 pub fn compare_read<K: Kind>(case: &Case, tally: &mut Tally, lent: &Lent<K>) {
     tally.add(lent.parsed.as_ref().err().copied().unwrap_or(0));
     case.same(K::read(&lent.bytes), K::expected(&lent.parsed), &lent.bytes, "read");
@@ -137,37 +140,44 @@ pub fn worked_minutes<K: Kind>() {
 }
 
 /// Every user, permission and minute of a stretch, and the set of holders.
-pub fn minute_by_minute<K: Kind>(case: &mut Case, tally: &mut Tally) {
-    let small = K::small(&mut case.random);
-    let lent = Lent::<K>::new(small.encode());
-    for t in (0..50).chain(END - 10..END + 1) {
-        compare_holders(case, tally, &lent, t);
-        for user in 0..=small.users() {
-            for permission in 0..=small.permissions() {
-                compare_question(case, tally, &lent, user, permission, t);
+pub fn minute_by_minute<K: Kind>(ask: Ask<K>) -> impl Fn(&mut Case, &mut Tally) {
+    move |case, tally| {
+        let small = K::small(&mut case.random);
+        let lent = Lent::<K>::new(small.encode());
+        for t in (0..50).chain(END - 10..END + 1) {
+            compare_holders(case, tally, &lent, t);
+            for user in 0..=small.users() {
+                for permission in 0..=small.permissions() {
+                    ask(case, tally, &lent, user, permission, t);
+                }
             }
         }
     }
 }
 
 /// Numbers at and over every limit, with minutes at and over theirs.
-pub fn at_and_over_limits<K: Kind>(case: &mut Case, tally: &mut Tally) {
-    let kind =
-        if case.random.one_in(3) { K::small(&mut case.random) } else { K::any(&mut case.random) };
-    let lent = Lent::<K>::new(kind.encode());
-    let numbers = |limit: u32| {
-        let below = limit.saturating_sub(1);
-        [0, below, limit, limit + 1, 63, 64, 65, 255, 256, 256 + below, 1 << 16, u32::MAX]
-    };
-    let t = kind.minute(&mut case.random);
-    for user in numbers(kind.users()) {
-        for permission in numbers(kind.permissions()) {
-            compare_question(case, tally, &lent, user, permission, t);
-        }
-        for t in [0, END - 1, END, END + 1, 1 << 31, u32::MAX] {
-            let permission = generate::number(&mut case.random, kind.permissions());
-            compare_question(case, tally, &lent, user, permission, t);
-            compare_holders(case, tally, &lent, t);
+pub fn at_and_over_limits<K: Kind>(ask: Ask<K>) -> impl Fn(&mut Case, &mut Tally) {
+    move |case, tally| {
+        let kind = if case.random.one_in(3) {
+            K::small(&mut case.random)
+        } else {
+            K::any(&mut case.random)
+        };
+        let lent = Lent::<K>::new(kind.encode());
+        let numbers = |limit: u32| {
+            let below = limit.saturating_sub(1);
+            [0, below, limit, limit + 1, 63, 64, 65, 255, 256, 256 + below, 1 << 16, u32::MAX]
+        };
+        let t = kind.minute(&mut case.random);
+        for user in numbers(kind.users()) {
+            for permission in numbers(kind.permissions()) {
+                ask(case, tally, &lent, user, permission, t);
+            }
+            for t in [0, END - 1, END, END + 1, 1 << 31, u32::MAX] {
+                let permission = generate::number(&mut case.random, kind.permissions());
+                ask(case, tally, &lent, user, permission, t);
+                compare_holders(case, tally, &lent, t);
+            }
         }
     }
 }

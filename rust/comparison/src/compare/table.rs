@@ -4,12 +4,12 @@ use cases::case::{Case, Tally};
 use cases::random::Random;
 use cases::{data, generate};
 use reference::table::Table;
-use reference::{Refusal, rewriting};
+use reference::{END, Refusal, rewriting};
 
 use super::asked::{Kind, Lent, compare_all, compare_any_question, compare_question};
 use super::rota::some_rota;
 use crate::ffi::rota::{Answered, Holders};
-use crate::ffi::table::TableRead;
+use crate::ffi::table::{NextUse, TableRead};
 use crate::{expected, ffi};
 
 impl Kind for Table {
@@ -56,6 +56,40 @@ impl Kind for Table {
     }
 }
 
+/// When the user can next use the permission: counted as now, later or never.
+pub fn compare_next_use(
+    case: &Case,
+    tally: &mut Tally,
+    lent: &Lent<Table>,
+    user: u32,
+    permission: u32,
+    m: u32,
+) {
+    let expected = expected::table::next_use(&lent.parsed, user, permission, m);
+    tally.add(expected.refusal);
+    match expected {
+        NextUse { refusal: 0, found: 0, .. } => tally.count("never"),
+        NextUse { refusal: 0, minute, .. } => {
+            tally.count(if minute == m { "now" } else { "later" })
+        }
+        _ => (),
+    }
+    let proved = ffi::table::next_use(&lent.bytes, user, permission, m);
+    let given = ("next use", "user", user, "permission", permission, "from", m);
+    case.same(proved, expected, &lent.bytes, given);
+}
+
+/// A user and a permission that a row grants, and any minute at which answers may change.
+fn own_numbers(random: &mut Random, table: &Table) -> Option<(u32, u32, u32)> {
+    if table.rows.is_empty() {
+        return None;
+    }
+    let row = random.pick(&table.rows);
+    let entry = &table.derived[row.derived as usize];
+    let (user, permission) = (entry.users.trailing_zeros(), entry.permissions.ilog2());
+    Some((user, permission, table.minute(random)))
+}
+
 /// A table that no rewriting makes: of any size once in three times, else a small one.
 pub fn table_by_hand(random: &mut Random) -> Table {
     if random.one_in(3) { generate::table(random) } else { generate::small_table(random) }
@@ -67,14 +101,52 @@ pub fn by_hand(case: &mut Case, tally: &mut Tally) {
     let lent = Lent::new(table.encode());
     assert!(lent.parsed.is_ok(), "the builder makes only accepted tables");
     compare_all(case, tally, &lent, &table, 6);
-    // A question that is likely to be a yes: the numbers of a row's own entry.
-    if !table.rows.is_empty() {
-        let row = case.random.pick(&table.rows);
-        let entry = &table.derived[row.derived as usize];
-        let (user, permission) = (entry.users.trailing_zeros(), entry.permissions.ilog2());
-        for _ in 0..3 {
-            let t = table.minute(&mut case.random);
+    // Questions that are likely to be a yes.
+    for _ in 0..3 {
+        if let Some((user, permission, t)) = own_numbers(&mut case.random, &table) {
             compare_question(case, tally, &lent, user, permission, t);
+        }
+    }
+}
+
+/// The next uses of tables by hand and rewritten, of any user and permission and of a row's own.
+pub fn next_uses(case: &mut Case, tally: &mut Tally) {
+    let table = match case.random.below(8) {
+        0 => generate::table(&mut case.random),
+        1 | 2 => rewriting::table(&generate::small_rota(&mut case.random)),
+        _ => generate::small_table(&mut case.random),
+    };
+    let lent = Lent::new(table.encode());
+    for _ in 0..4 {
+        let user = generate::number(&mut case.random, table.users.into());
+        let permission = generate::number(&mut case.random, table.permissions.into());
+        let m = table.minute(&mut case.random);
+        compare_next_use(case, tally, &lent, user, permission, m);
+        if let Some((user, permission, m)) = own_numbers(&mut case.random, &table) {
+            compare_next_use(case, tally, &lent, user, permission, m);
+        }
+    }
+}
+
+/// The next use from a minute is that minute where the question is a yes, and else the next use
+/// from the minute after it: the request's own words, by the proved questions.
+pub fn next_uses_by_questions(case: &mut Case, tally: &mut Tally) {
+    let table = generate::small_table(&mut case.random);
+    let bytes = table.encode();
+    for user in 0..table.users.into() {
+        for permission in 0..table.permissions.into() {
+            for (first, last) in [(0, 60), (END - 40, END - 1)] {
+                let next = |m| ffi::table::next_use(&bytes, user, permission, m);
+                let mut after = next(last);
+                for m in (first..last).rev() {
+                    let is_yes = ffi::table::question(&bytes, user, permission, m).yes == 1;
+                    let expected =
+                        if is_yes { NextUse { refusal: 0, found: 1, minute: m } } else { after };
+                    after = next(m);
+                    tally.add(after.refusal);
+                    case.same(after, expected, &bytes, ("next use", user, permission, "from", m));
+                }
+            }
         }
     }
 }
@@ -98,8 +170,11 @@ pub fn several_faults(case: &mut Case, tally: &mut Tally) {
         1 => rewriting::table(&generate::small_rota(&mut case.random)),
         _ => generate::small_table(&mut case.random),
     };
-    let bytes = generate::damaged_table(&mut case.random, &table);
-    compare_all(case, tally, &Lent::new(bytes), &table, 1);
+    let lent = Lent::new(generate::damaged_table(&mut case.random, &table));
+    compare_all(case, tally, &lent, &table, 1);
+    let (user, permission) = (case.random.below(66), case.random.below(66));
+    let m = table.minute(&mut case.random);
+    compare_next_use(case, tally, &lent, user, permission, m);
 }
 
 /// Counts near 2^32 in short files, most with a size that is right in 32 bits.

@@ -14,9 +14,18 @@ pub struct TableRead {
     pub rows: u32,
 }
 
+#[repr(C)]
+#[derive(Clone, Copy, Debug, Default, PartialEq, Eq)]
+pub struct NextUse {
+    pub refusal: u32,
+    pub found: u32,
+    pub minute: u32,
+}
+
 unsafe extern "C" {
     fn softlode_table_read(s: *const u8, len: usize) -> TableRead;
     fn softlode_table_question(s: *const u8, len: usize, u: u32, p: u32, t: u32) -> Answered;
+    fn softlode_table_next(s: *const u8, len: usize, u: u32, p: u32, m: u32) -> NextUse;
     fn probe_table_holders(s: *const u8, len: usize, t: u32) -> Holders;
 }
 
@@ -26,6 +35,10 @@ pub fn read(bytes: &[u8]) -> TableRead {
 
 pub fn question(bytes: &[u8], user: u32, permission: u32, t: u32) -> Answered {
     unsafe { softlode_table_question(bytes.as_ptr(), bytes.len(), user, permission, t) }
+}
+
+pub fn next_use(bytes: &[u8], user: u32, permission: u32, m: u32) -> NextUse {
+    unsafe { softlode_table_next(bytes.as_ptr(), bytes.len(), user, permission, m) }
 }
 
 pub fn holders(bytes: &[u8], t: u32) -> Holders {
