@@ -36,8 +36,9 @@ use Rattle.derivation.proofs.CutLaws.{Inside}
 use Rattle.derivation.proofs.ValueLaws.{era-values, cell-values, hoursCuts-length, pairsCuts-length}
 use Rattle.derivation.proofs.TableFields.{fieldsOf-length}
 use Rattle.grid.specs.declared.Division.{Division}
-use Rattle.grid.specs.Grid.{Added, hoursNo, fieldMask, gapAt, InCells, maskIn, Cuts, Divided, Laid}
-use Rattle.grid.proofs.RecordLaws.{few-hours}
+use Rattle.cuts.specs.Added.{Added, hoursNo}
+use Rattle.grid.specs.Grid.{fieldMask, gapAt, InCells, maskIn, Cuts, Divided, Laid}
+use Rattle.cuts.proofs.RecordLaws.{few-hours}
 use Rattle.grid.proofs.OrderLaws.{gaps-at, gap-in, added-cuts}
 use Rattle.grid.proofs.FieldLaws.{holds-split}
 

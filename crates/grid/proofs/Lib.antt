@@ -1,5 +1,3 @@
-pub mod InsertLaws
-pub mod RecordLaws
 pub mod OrderLaws
 pub mod FieldLaws
 pub mod MaskLaws

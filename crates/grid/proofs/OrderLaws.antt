@@ -17,7 +17,8 @@ use Rattle.derivation.specs.Cuts.{Gap, sortInto, gapsFrom, gaps}
 use Rattle.derivation.proofs.CutLaws.{ordered}
 use Rattle.derivation.proofs.TableCuts.{sort-all}
 use Rattle.derivation.proofs.ValueLaws.{Upto}
-use Rattle.grid.specs.Grid.{Added, gapAt, Cuts}
+use Rattle.cuts.specs.Added.{Added}
+use Rattle.grid.specs.Grid.{gapAt, Cuts}
 
 abbrev next : List ℕ → ℕ → Gap
 next l k = record { low = getD l k 0; high = getD l (suc k) 0 }

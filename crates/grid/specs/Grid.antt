@@ -1,40 +1,20 @@
 -- The eras, the cells and the field masks of a rota's bytes, as the code lays them out in arrays.
 use Prim.Native.Nat.{ℕ, _+_, _*_, _≤_, _<_}
 use mathlib.Core.Path.{_≡_}
-use mathlib.Core.List.{List, _++_, map}
+use mathlib.Core.List.{List, map}
 use lib.Dec.{ltb}
-use lib.ListN.{length, getD, take, drop}
+use lib.ListN.{length, getD, take}
 use Rattle.ground.specs.Choice.{pick}
 use Rattle.bitset.specs.Sets.{insert, intersection}
 use Rattle.minutes.specs.Minutes.{E}
 use Rattle.minutes.specs.First.{firstIn}
-use Rattle.hours.specs.Hours.{Hours}
-use Rattle.hours.specs.HoursBytes.{recordAt, hoursAt}
 use Rattle.hours.specs.Inside.{pairsHold, recordsThat}
 use Rattle.rota.specs.RotaBytes.{headerLength, cycleOf, hoursOf, rotaOf}
 use Rattle.rota.specs.RotaRefusals.{rotaJudged}
-use Rattle.derivation.specs.Cuts.{Gap, insertCut, sortInto}
+use Rattle.derivation.specs.Cuts.{Gap}
 use Rattle.derivation.specs.Rewriting.{eraCuts, cellCuts, fields}
 use Rattle.derivation.specs.Masks.{maskOf}
 use Rattle.grid.specs.declared.Division.{Division}
-
--- among the first n values of an array a, those before r are less than x, and the one at r is not
-pub record Placed (a : List ℕ) (n x r : ℕ) : Type 0 where
-  pub passed : insertCut x (take n a) ≡ take r a ++ insertCut x (drop r (take n a))
-  pub within : r ≤ n
-  pub met : r < n → x ≤ getD a r 0
-
--- the first n values of an array a, with the values vs added in order, are the first m of b
-pub record Added (a : List ℕ) (n : ℕ) (vs b : List ℕ) (m : ℕ) : Type 0 where
-  pub sorted : take m b ≡ sortInto (take n a) vs
-  pub more : n ≤ m
-  pub most : m ≤ n + length vs
-  pub some : 0 < length vs → 0 < m
-  pub long : length b ≡ length a
-
--- record k of a rota's bytes
-abbrev pub hoursNo : List ℕ → ℕ → Hours
-hoursNo s k = hoursAt s (recordAt s (headerLength s) k)
 
 -- the mask of the field with the era from b to e and the cell from o to f, by the records whose dates hold in the era and those whose pairs hold
 -- in the cell

@@ -17,8 +17,8 @@ use Rattle.table.specs.Inside.{entryMade}
 use Rattle.derivation.specs.Distinct.{placeOf}
 use Rattle.derivation.specs.Rewriting.{same}
 use Rattle.derivation.proofs.TableDistinct.{place-most, add-found, add-end}
-use Rattle.index.specs.Entries.{usersAt, permissionsAt, entryAt, entriesTo, withPair, after, Entered}
-use Rattle.index.specs.Tree.{Absent, Indexed}
+use Rattle.index.specs.Entries.{entryAt, entriesTo, withPair, after, Entered}
+use Rattle.trees.specs.Tree.{usersAt, permissionsAt, Absent, Indexed}
 use Rattle.index.proofs.PairLaws.{users-kept, permissions-kept, users-new, permissions-new}
 
 -- ---- one by one

@@ -12,11 +12,11 @@ use lib.Seq.{getD-set-same, getD-set-other}
 use borrow.Author.Count.{below-more}
 use borrow.Author.Tests.{eqb-true, eqb-false}
 use Rattle.ground.proofs.BoolLaws.{lt-or-le}
-use Rattle.index.specs.Entries.{usersAt, permissionsAt, withPair}
-use Rattle.index.specs.Tree.{turnAt, bucketOf, Comes, Within, Absent, Reached, Indexed, Ends}
+use Rattle.index.specs.Entries.{withPair}
+use Rattle.trees.specs.Tree.{usersAt, permissionsAt, turnAt, bucketOf, Comes, Within, Absent, Reached, Indexed, Ends}
 use Rattle.index.proofs.PairLaws.{users-kept, permissions-kept, users-new, permissions-new}
-use Rattle.index.proofs.TurnLaws.{bucket-small}
-use Rattle.index.proofs.WalkLaws.{comes-below}
+use Rattle.trees.proofs.TurnLaws.{bucket-small}
+use Rattle.trees.proofs.WalkLaws.{comes-below}
 
 -- with no pair, where no tree has a root
 pub index-none : (links pairs : List ℕ) (a b : ℕ) → ((h : ℕ) → h < 512 → getD links h 0 ≡ 0) → Indexed 0 pairs links a b

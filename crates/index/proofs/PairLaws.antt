@@ -6,7 +6,8 @@ use mathlib.Core.List.{List}
 use native.Mathlib.Omega.{arith}
 use lib.ListN.{length, set, length-set}
 use lib.Seq.{getD-set-same, getD-set-other}
-use Rattle.index.specs.Entries.{usersAt, permissionsAt, withPair}
+use Rattle.index.specs.Entries.{withPair}
+use Rattle.trees.specs.Tree.{usersAt, permissionsAt}
 
 module _ (pairs : List ℕ) (d u p : ℕ) where
   pub users-kept : (i : ℕ) → i < d → usersAt (withPair pairs d u p) i ≡ usersAt pairs i

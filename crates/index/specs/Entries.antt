@@ -1,22 +1,16 @@
--- Pairs of sets as the entries of a source, and one pair more. Pair k of a list has its users at place 2 k, and its permissions at the place after it.
+-- Pairs of sets as the entries of a source, and one pair more.
 use Prim.Native.Nat.{ℕ, _+_, _*_, _≤_}
 use mathlib.Core.Path.{_≡_}
 use mathlib.Core.List.{List}
 use lib.Dec.{eqb}
-use lib.ListN.{getD, set}
+use lib.ListN.{set}
 use Rattle.ground.specs.Choice.{pick}
 use Rattle.ground.specs.Sequence.{listOf}
 use Rattle.table.specs.Table.{Entry}
 use Rattle.table.specs.Inside.{entryMade}
 use Rattle.derivation.specs.Distinct.{addNew, placeOf}
 use Rattle.derivation.specs.Rewriting.{same}
-
--- the two sets of pair k
-abbrev pub usersAt : List ℕ → ℕ → ℕ
-usersAt pairs k = getD pairs (2 * k) 0
-
-abbrev pub permissionsAt : List ℕ → ℕ → ℕ
-permissionsAt pairs k = getD pairs (2 * k + 1) 0
+use Rattle.trees.specs.Tree.{usersAt, permissionsAt}
 
 -- pair k as an entry of a source, and the first n pairs
 abbrev pub entryAt : ℕ → List ℕ → ℕ → Entry

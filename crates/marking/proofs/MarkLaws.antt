@@ -13,7 +13,7 @@ use Rattle.ground.specs.Choice.{pick}
 use Rattle.table.specs.Table.{Entry}
 use Rattle.derivation.specs.Roles.{nextEntries, markOf}
 use Rattle.index.specs.Entries.{entriesTo, after, Entered}
-use Rattle.index.specs.Tree.{Indexed}
+use Rattle.trees.specs.Tree.{Indexed}
 use Rattle.marking.specs.Mark.{grown, Marked}
 
 -- ---- how many entries there are after a mark

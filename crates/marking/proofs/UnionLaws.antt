@@ -17,7 +17,7 @@ use Rattle.ground.proofs.BoolLaws.{clash, and-left, and-right, and-both, lt-or-
 use Rattle.ground.proofs.SearchLaws.{any-out, any-stop}
 use Rattle.bitset.specs.Sets.{has, setOf, union, intersection, Lowest}
 use Rattle.bitset.proofs.SetLaws.{has-none, has-past, has-below, has-union, has-intersection, has-shifted, setOf-lt, union-nothing}
-use Rattle.index.specs.Tree.{Within}
+use Rattle.trees.specs.Tree.{Within}
 use Rattle.marking.specs.Role.{inUse, usedIn, unionOf}
 
 -- ---- one slot more

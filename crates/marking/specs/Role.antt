@@ -13,7 +13,7 @@ use Rattle.bitset.specs.Sets.{has, setOf, union}
 use Rattle.rota.specs.Rota as rota
 use Rattle.table.specs.Table.{Entry}
 use Rattle.derivation.specs.Masks.{slotOf}
-use Rattle.index.specs.Tree.{Within}
+use Rattle.trees.specs.Tree.{Within}
 use Rattle.marking.specs.declared.Role.{Role}
 use Rattle.marking.specs.declared.Sets.{Sets}
 

@@ -2,7 +2,7 @@
 ghost use mathlib.Core.Path.{_≡_};
 ghost use Prim.Native.Nat.{_+_, _*_, _<_};
 ghost use lib.ListN.{length};
-ghost use Rattle.index.specs.Tree.{Within, Indexed};
+ghost use Rattle.trees.specs.Tree.{Within, Indexed};
 ghost use Rattle.marking.specs.Role.{usedIn, unionOf, setsMade, keptWith, Gathered};
 ghost use Rattle.marking.specs.Mark.{grown, Marked};
 

@@ -5,7 +5,7 @@ use mathlib.Core.Logic.{⊎-elim}
 use Prim.Native.Nat.{_-_, _≤_}
 use lib.ListN.{length, drop}
 use lib.Seq.{drop-set-lt}
-use Rattle.index.specs.Tree.{Indexed}
+use Rattle.trees.specs.Tree.{Indexed}
 use Rattle.marking.specs.Mark.{grown}
 use Rattle.marking.proofs.UnionLaws.{within-all}
 use Rattle.marking.proofs.MarkLaws.{grown-yes, grown-no, index-then}
