@@ -135,9 +135,10 @@ pub fn next_uses_by_questions(case: &mut Case, tally: &mut Tally) {
     let bytes = table.encode();
     for user in 0..table.users.into() {
         for permission in 0..table.permissions.into() {
-            for (first, last) in [(0, 60), (END - 40, END - 1)] {
+            for (first, last) in [(0, 60), (END - 40, END)] {
                 let next = |m| ffi::table::next_use(&bytes, user, permission, m);
-                let mut after = next(last);
+                // After the last minute there is none.
+                let mut after = if last < END { next(last) } else { NextUse::default() };
                 for m in (first..last).rev() {
                     let is_yes = ffi::table::question(&bytes, user, permission, m).yes == 1;
                     let expected =
