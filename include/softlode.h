@@ -2,7 +2,7 @@
  * Softlode: proved access hours. The C interface of the proved library.
  *
  * Link target/staticlib/libsoftlode.a, which `rt staticlib softlode` proves and writes (x86-64, System V calls). Of other libraries it needs
- * memset alone.
+ * memcpy and memset alone.
  *
  * What holds of every function here:
  *
