@@ -20,7 +20,7 @@ ghost use Rattle.calendar.specs.Calendar.{
   minuteGiven,
 };
 
-mod tables; // the day numbers of the years, and the starts of the months
+mod tables; // the starts of the months
 
 pub struct Date {
     pub year: u32,
@@ -55,12 +55,12 @@ fn is_leap(year: u32) -> bool
     year % 400 == 0
 }
 
-// The day number of 1 January of year 2001 + k.
+// The day number of 1 January of year 2001 + k. Where 2401 would start the formula is a day short.
 fn year_start(k: u32) -> u32
     requires { ⌜ k < 400 ⌝ }
     ensures { λ r. ⌜ r ≡ yearStart k ⌝ }
 {
-    tables::YEAR_STARTS[k as usize]
+    365 * k + k / 4 - k / 100
 }
 
 // The days of a year before the first of month 1 + j; the year's length where j is 12.
@@ -96,7 +96,8 @@ struct Year {
     start: u32,
 }
 
-// The year of a day. No year has more than 366 days, so the guess is never late, and it is at most one year early. The table is read once.
+// The year of a day. No year has more than 366 days, so the guess is never late, and it is at most one year early.
+// The year's own start is the next one's less its length.
 fn year_on(day: u32) -> Year
     requires { ⌜ day < yearStart 400 ⌝ }
     ensures { λ r. ⌜ (r .k ≡ yearOn day) × (r .start ≡ yearStart (r .k)) ⌝ }
