@@ -11,7 +11,7 @@ use lib.Dec.{eqb}
 use borrow.Author.Tests.{eqb-true, eqb-false, ne-eqb}
 use Rattle.ground.specs.Choice.{pick}
 use Rattle.calendar.specs.Calendar.{leap, yearLength, yearStart}
-use Rattle.calendar.proofs.PeriodLaws.{year-next, year-end}
+use Rattle.calendar.proofs.PeriodLaws.{year-end}
 
 -- 1 January of year 2001 + k: 365 days for each year before, a day more for each fourth year, and a day less for each hundredth
 abbrev pub startBy : ℕ → ℕ

@@ -2,22 +2,22 @@
 --     year-next, year-before               the next start, and back
 --     month-next, month-gap                the next start; a month's length is what lies between its start and the next
 --     year-end, month-end                  where the last year ends; where a year ends, by months
---     month-table                          a list of month starts, tested at one leap year or one common year, serves all
+--     common-year, leap-year, leap-room    the starts of months, by those of 2001; none is after 366 days
 --     year-stays, year-moves, year-last    the year of a day is the guess by 366, or the next
 --     month-below, month-stays, month-moves     the month of a day of a year is the guess by 31, or the next
 --     year-place, month-place, year-is, month-is     the year of a day, and the month of a day of a year, by where they start and end
 -- Assumes nothing.
 use Prim.Native.Nat.{ℕ, zero, suc, _+_, _-_, _/_, _<_, _≤_, zero-le}
-use mathlib.Core.Path.{_≡_, refl, sym, ap, _∙_}
+use mathlib.Core.Path.{_≡_, refl, ap, _∙_}
 use mathlib.Core.Bool.{Bool, true, false}
-use native.Mathlib.Nat.{not-suc-le-zero}
+use native.Mathlib.Nat.{not-suc-le-zero, le-of-suc-le-suc}
 use native.Mathlib.Numerals.{add-one, one-add}
 use native.Mathlib.Omega.{arith}
-use mathlib.Core.List.{List}
-use lib.Dec.{T, lit<}
-use lib.ListN.{length, getD}
+use mir.Val.{boolByte}
+use lib.Dec.{T, leb, lit<}
+use borrow.Author.Tests.{le-leb}
 use Rattle.calendar.specs.Calendar.{leap, yearLength, monthLength, yearStart, monthStart, yearOn, monthOn}
-use Rattle.calendar.proofs.StartLaws.{runs, run-at, near, Placed, place-in, place-is, guess-below, guess-stays, guess-next}
+use Rattle.calendar.proofs.StartLaws.{near, Placed, later, place-in, place-is, guess-below, guess-stays, guess-next}
 
 pub year-next : (k : ℕ) → yearStart (suc k) ≡ yearStart k + yearLength (2001 + k)
 unfolding yearStart
@@ -57,15 +57,33 @@ month-end-of y false e = simp e
 pub month-end : (y : ℕ) → monthStart y 12 ≡ yearLength y
 month-end y = month-end-of y (leap y) refl
 
--- months start alike in two leap years, and in two common years
-alike : (y z : ℕ) → leap y ≡ leap z → (j : ℕ) → monthStart y j ≡ monthStart z j
-unfolding monthStart monthLength
-alike y z e zero = refl
-alike y z e (suc j) = rw (alike y z e j, e)
+-- months start in every common year as in 2001
+pub common-year : (y : ℕ) → leap y ≡ false → (j : ℕ) → monthStart y j ≡ monthStart 2001 j
+unfolding monthStart monthLength leap
+common-year y e zero = refl
+common-year y e (suc j) = rw (common-year y e j, e)
 
-pub month-table : (y z : ℕ) → leap y ≡ leap z → (xs : List ℕ) → T (runs (λ j. monthLength z (1 + j)) 0 (monthStart z 0) xs) → (i : ℕ)
-    → i < length xs → getD xs i 0 ≡ monthStart y i
-month-table y z e xs t i h = run-at (monthStart z) _ (month-next z) xs t i h ∙ sym (alike y z e i)
+-- and in a leap year a day later from March on
+later-length : (y j : ℕ) → monthLength y (1 + suc (suc j)) ≡ monthLength 2001 (1 + suc (suc j))
+unfolding monthLength
+later-length y j = let e : 1 + suc (suc j) - 1 ≡ suc (suc j) = omega arith in rw e refl
+
+later-start : (y : ℕ) → leap y ≡ true → (j : ℕ) → monthStart y (suc (suc j)) ≡ monthStart 2001 (suc (suc j)) + 1
+unfolding monthStart monthLength leap
+later-start y e zero = simp e
+later-start y e (suc j) =
+    omega (arith, later-start y e j, later-length y j, month-next y (suc (suc j)), month-next 2001 (suc (suc j)))
+
+pub leap-year : (y : ℕ) → leap y ≡ true → (j : ℕ) → monthStart y j ≡ monthStart 2001 j + boolByte (leb 2 j)
+unfolding monthStart monthLength
+leap-year y e zero = refl
+leap-year y e (suc zero) = refl
+leap-year y e (suc (suc j)) = rw (le-leb 2 (suc (suc j)) (omega arith)) (later-start y e j)
+
+pub leap-room : (j : ℕ) → j < 13 → monthStart 2001 j + boolByte (leb 2 j) ≤ 366
+unfolding yearLength leap
+leap-room j h =
+    rw (leap-year 2004 refl j, month-end 2004) at (later (monthStart 2004) _ (month-next 2004) j 12 (le-of-suc-le-suc h))
 
 -- 1 January of year k lies from 366 * (k - 1) to 366 * k days after day 0: one computed test over all years
 year-near : T (near (λ k. yearLength (2001 + k)) 366 400 0 (yearStart 0))

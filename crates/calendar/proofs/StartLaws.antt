@@ -1,30 +1,32 @@
 -- Laws of starts: a first start, and a step from each to the next. The starts of years and those of months are such.
---     run-at           a list that passes one computed test holds the starts
+--     past             what is none of the first n numbers is at least n
 --     later            a later start is not lower
 --     place-in         what a search finds is the place of x
 --     place-is         the place of x is what a search finds
 --     guess-below, guess-stays, guess-next
 --                      where one computed test shows that start k is near w * k, the place of x is x / w or the next
 -- Assumes nothing.
-use Prim.Native.Nat.{ℕ, zero, suc, _+_, _-_, _*_, _/_, _≤_, _<_}
-use mathlib.Core.Path.{_≡_, refl, sym, ap, _∙_}
+use Prim.Native.Nat.{ℕ, zero, suc, _+_, _-_, _*_, _/_, _≤_, _<_, zero-le}
+use mathlib.Core.Path.{_≡_, refl, ap, _∙_}
 use mathlib.Core.Bool.{Bool, true, false, _&&_}
-use mathlib.Core.List.{List, [], _∷_}
 use mathlib.Core.Logic.{⊎-elim}
 use native.Mathlib.Nat.{add-zero, zero-add, add-suc, suc-add, le-of-suc-le-suc, not-suc-le-zero, eq-or-lt-of-le, le-refl, le-of-lt, div-lt-iff-lt-mul, mul-div-le, lt-mul-div-succ}
 use native.Mathlib.Numerals.{add-one, add-one-le}
 use native.Mathlib.Omega.{arith}
-use lib.Dec.{T, leb, eqb, eqb→eq, leb→le}
-use lib.ListN.{length, getD}
+use lib.Dec.{T, leb, leb→le}
 use borrow.Author.Tests.{le-leb, lt-leb, leb-true, leb-false}
 use Rattle.ground.specs.Choice.{pick}
 use Rattle.ground.specs.Search.{highestBelow}
 use Rattle.ground.proofs.BoolLaws.{and-l, and-r, pick-true, pick-false}
 
--- the list holds s, and then each next start, from place k on
-abbrev pub runs : (ℕ → ℕ) → ℕ → ℕ → List ℕ → Bool
-runs step k s [] = true
-runs step k s (x ∷ xs) = eqb x s && runs step (suc k) (s + step k) xs
+-- x is none of the first n numbers, as the last arm of a `match` has it
+abbrev pub None : ℕ → ℕ → Type 0
+None zero x = Unit {0}
+None (suc n) x = None n x × (x ≡ n → ⊥)
+
+pub past : (n x : ℕ) → None n x → n ≤ x
+past zero x h = zero-le
+past (suc n) x h = omega (arith, past n x (h .0), h .1)
 
 -- n times over, from place k and its start s: the next start is at least w * k and at most w * suc k
 abbrev pub near : (ℕ → ℕ) → ℕ → ℕ → ℕ → ℕ → Bool
@@ -41,16 +43,6 @@ abbrev pub place : ℕ → (ℕ → ℕ) → ℕ → ℕ
 place n start x = highestBelow n (λ k. leb (start k) x)
 
 module _ (start step : ℕ → ℕ) (next : (k : ℕ) → start (suc k) ≡ start k + step k) where
-  run-from : (xs : List ℕ) (k i : ℕ) → T (runs step k (start k) xs) → i < length xs → getD xs i 0 ≡ start (k + i)
-  run-from [] k i t h = absurd (not-suc-le-zero h)
-  run-from (x ∷ xs) k zero t h = eqb→eq x (start k) (and-l (eqb x (start k)) _ t) ∙ ap start (sym (add-zero k))
-  run-from (x ∷ xs) k (suc i) t h =
-      run-from xs (suc k) i (rw (next k) (and-r (eqb x (start k)) _ t)) (le-of-suc-le-suc h)
-      ∙ ap start (suc-add k i ∙ sym (add-suc k i))
-
-  pub run-at : (xs : List ℕ) → T (runs step 0 (start 0) xs) → (i : ℕ) → i < length xs → getD xs i 0 ≡ start i
-  run-at xs t i h = run-from xs 0 i t h ∙ ap start (zero-add i)
-
   on : (d i : ℕ) → start i ≤ start (i + d)
   on zero i = rw add-zero (omega arith)
   on (suc d) i = rw add-suc (omega (arith, next (i + d), on d i))

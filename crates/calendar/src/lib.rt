@@ -63,16 +63,14 @@ fn year_start(k: u32) -> u32
     365 * k + k / 4 - k / 100
 }
 
-// The days of a year before the first of month 1 + j; the year's length where j is 12.
+// The days of a year before the first of month 1 + j; the year's length where j is 12. From March on, a leap year's months start a day later.
 fn month_start(year: u32, j: u32) -> u32
     requires { ⌜ j < 13 ⌝ }
     ensures { λ r. ⌜ r ≡ monthStart year j ⌝ }
 {
-    if is_leap(year) {
-        tables::LEAP_STARTS[j as usize]
-    } else {
-        tables::COMMON_STARTS[j as usize]
-    }
+    let common = tables::common_start(j);
+    let leap = common + (2 <= j) as u32;
+    if is_leap(year) { leap } else { common }
 }
 
 // The days of month 1 to 12.
