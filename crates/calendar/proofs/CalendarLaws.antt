@@ -1,6 +1,4 @@
 -- What the calendar promises, as theorems over its definitions.
---     year-next                            the rule of the 400 day numbers: each year starts a year's length after the one before
---     end-is                               E is where the year 2401 would start
 --     there, there-and-back, given-back    the fields of a minute's date exist, and they give that minute
 --     back, back-and-there                 a date that exists has a minute below E, and is the date of that minute
 --     weekday-is                           the weekday is the day number's remainder by 7, day 0 being a Monday

@@ -10,7 +10,7 @@ use reference::table::{DerivedRole, Table};
 use reference::{END, rewriting};
 
 /// How many questions each input has; they are asked in turn.
-pub const QUESTIONS: usize = 256;
+const QUESTIONS: usize = 256;
 
 #[derive(Clone, Copy)]
 pub struct Question {

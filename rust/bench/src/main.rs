@@ -7,7 +7,9 @@ mod timing;
 
 use std::hint::black_box;
 
+use cases::random::Random;
 use comparison::ffi;
+use reference::END;
 use reference::service::{Call, Lent, State};
 use tuned::policy::{holders, question};
 use tuned::rota::Rota;
@@ -213,23 +215,29 @@ fn serve_times(lent: Lent, call: impl Fn(usize) -> (State, Call)) -> Times {
     )
 }
 
-fn dates(input: &Input, report: &mut Report) {
-    let minute = |i: usize| input.question(i).minute;
-    let times = time(|i| ffi::date(minute(i)), |i| calendar::date(minute(i)));
-    report.print("minute to date", "any minute", times);
-    let dates: Vec<_> =
-        (0..inputs::QUESTIONS).map(|i| calendar::date(minute(i)).expect("a minute")).collect();
-    let times = time(
-        |i| {
-            let date = &dates[i % inputs::QUESTIONS];
-            ffi::minute(date.year, date.month, date.day, date.hour, date.minute)
-        },
-        |i| {
-            let date = &dates[i % inputs::QUESTIONS];
-            calendar::minute(date.year, date.month, date.day, date.hour, date.minute)
-        },
-    );
-    report.print("date to minute", "any date", times);
+/// Minutes of all years in no order: few, so that a processor learns the course of each, and many,
+/// so that it has to guess.
+fn dates(report: &mut Report) {
+    for (name, count) in [("256 minutes", 256), ("8,192 minutes", 8_192)] {
+        let mut random = Random::new(1);
+        let minutes: Vec<u32> = (0..count).map(|_| random.below(END)).collect();
+        let dates: Vec<_> =
+            minutes.iter().map(|&minute| calendar::date(minute).expect("a minute")).collect();
+        let last = count - 1;
+        let times = time(|i| ffi::date(minutes[i & last]), |i| calendar::date(minutes[i & last]));
+        report.print("minute to date", name, times);
+        let times = time(
+            |i| {
+                let date = &dates[i & last];
+                ffi::minute(date.year, date.month, date.day, date.hour, date.minute)
+            },
+            |i| {
+                let date = &dates[i & last];
+                calendar::minute(date.year, date.month, date.day, date.hour, date.minute)
+            },
+        );
+        report.print("date to minute", name, times);
+    }
 }
 
 fn main() {
@@ -260,7 +268,7 @@ fn main() {
         }
     }
     if is_chosen("calendar") {
-        dates(&inputs[0], &mut report);
+        dates(&mut report);
     }
     report.print_table(&inputs);
 }
