@@ -169,6 +169,6 @@ fn of_every_other_call() {
             all.push(stack_of(NEAR, || date(4_000_003 * day)));
             all.push(stack_of(NEAR, || minute(2001 + 8 * day, 2, 28 + day % 3, 23, 59)));
         }
-        assert!(most("every other call", &all) < 4_096);
+        assert!(most("every other call", &all) < 1_024);
     });
 }
