@@ -63,7 +63,7 @@ unfolding monthStart monthLength leap
 common-year y e zero = refl
 common-year y e (suc j) = rw (common-year y e j, e)
 
--- and in a leap year a day later from March on
+-- from March on a month is as long in a leap year, and starts a day later
 later-length : (y j : ℕ) → monthLength y (1 + suc (suc j)) ≡ monthLength 2001 (1 + suc (suc j))
 unfolding monthLength
 later-length y j = let e : 1 + suc (suc j) - 1 ≡ suc (suc j) = omega arith in rw e refl

@@ -22,12 +22,12 @@ is-leap-requires c κs = search needs
 returns : tie.Need-returns
 returns c =
     let a = c .before .before .before .args in
-    rw (c .before .before .common-start .ensures) (sym (leap-year (a .year) (sym (c .before .is-leap .ensures) ∙ c .if1 .taken) (a .j)))
+    omega (arith, leap-year (a .year) (sym (c .before .is-leap .ensures) ∙ c .if1 .taken) (a .j), c .before .before .common-start .ensures)
 
 returns-2 : tie.Need-returns-2
 returns-2 c =
     let a = c .before .before .before .args in
-    c .before .before .common-start .ensures ∙ sym (common-year (a .year) (sym (c .before .is-leap .ensures) ∙ c .if1 .left) (a .j))
+    omega (arith, common-year (a .year) (sym (c .before .is-leap .ensures) ∙ c .if1 .left) (a .j), c .before .before .common-start .ensures)
 
 pub month-start-spec : {M : Type 1} → statement M
 month-start-spec =

@@ -1,5 +1,6 @@
 -- `calendar::year_start` meets its contract: the formula is the leap-year rule, for each year.
 -- Assumes nothing.
+use native.Mathlib.Omega.{arith}
 use borrow.Author.Needs.{needs}
 use Rattle.calendar.proofs.FormulaLaws.{formula}
 use Rattle.calendar.proofs.year_start.Statement.{statement}
@@ -15,7 +16,7 @@ sub-result : tie.Need-sub-result
 sub-result c = search needs
 
 returns : tie.Need-returns
-returns c = formula (c .args .k) (c .pre)
+returns c = omega (arith, formula (c .args .k) (omega arith))
 
 pub year-start-spec : {M : Type 1} → statement M
 year-start-spec = tie.close (tie.spec mul-result add-result sub-result returns)
