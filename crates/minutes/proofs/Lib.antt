@@ -1,3 +1,3 @@
 pub mod FirstLaws
 pub mod WindowLaws
-pub mod StretchLaws
+pub mod LastingLaws

@@ -1,3 +1,3 @@
 pub mod Minutes
 pub mod First
-pub mod Stretch
+pub mod Lasting

@@ -1,9 +1,10 @@
 -- Who holds a permission throughout a stretch of minutes.
 --     steady-all                    with no minute it is everyone of the set
 --     steady-join, steady-more      two stretches, one after the other
---     steady-fixed                  a stretch in which the holders do not change
---     steady-turned                 within an era one cycle is enough
 --     steady-over                   nobody is left
+--     swept-none, swept-more        a sweep, step by step
+--     swept-all                     where it has passed a whole cycle, what goes by the cycle is known
+--     swept-over                    nobody is left in it
 -- Assumes nothing.
 use Prim.Native.Nat.{ℕ, _+_, _^_, _≤_, _<_, min}
 use mathlib.Core.Path.{_≡_, refl, sym, ap, _∙_}
@@ -17,11 +18,12 @@ use lib.Pow.{pow-pos}
 use Rattle.ground.proofs.BoolLaws.{and-yes, and-both, eq-ext, clash, lt-or-le}
 use Rattle.ground.proofs.SearchLaws.{any-no, any-none-of}
 use Rattle.bitset.specs.Sets.{has, setOf, intersection}
-use Rattle.bitset.proofs.SetLaws.{setOf-has, setOf-lt, setOf-same, has-below, has-none, intersection-of}
-use Rattle.minutes.proofs.StretchLaws.{turned}
+use Rattle.bitset.proofs.SetLaws.{setOf-has, setOf-lt, has-below, has-none, intersection-of}
+use Rattle.minutes.specs.Lasting.{Lasting}
+use Rattle.minutes.proofs.LastingLaws.{lasting-at, lasting-shorter, lasting-on, lasting-turned}
 use Rattle.policy.specs.Policy.{Policy, holdsAny, holdersAt}
 use Rattle.policy.specs.Steady.{lapses, steadyOver}
-use Rattle.policy.specs.Held.{HeldAt}
+use Rattle.policy.specs.Held.{HeldAmong}
 
 module _ (π : Policy) where
   -- user u holds a permission at each minute from a to before b
@@ -88,30 +90,77 @@ module _ (π : Policy) where
   unfolding holdersAt
   holder v u l = has-below (π .users) (holdsAny π v) u l
 
-  module _ (few : π .users ≤ 64) (c y set until era : ℕ) (h : HeldAt π c y set until era) (z : ℕ) (yz : y < z) (zu : z ≤ until) where
-    pub steady-fixed : (among r : ℕ) → r ≡ intersection among set → r ≡ steadyOver π among y z
-    unfolding steadyOver
-    steady-fixed among r e =
-        e
-        ∙ ap (intersection among) (h .is)
-        ∙ held-of among y
-        ∙ setOf-same (π .users) _ _ (λ u l. ap (λ (b : Bool). has among u && b) (eq-ext _ _ (λ k. lapse-none y z u (λ v p q. same u l v p q ∙ k)) (λ k. no-lapse y z u k y (le-refl y) yz)))
+  held-of : (few : π .users ≤ 64) (x v : ℕ) → intersection x (holdersAt π v) ≡ setOf (π .users) (λ u. has x u && holdsAny π v u)
+  unfolding holdersAt
+  held-of few x v = intersection-of (π .users) x (holdsAny π v) few
+
+  -- ---- a sweep from x on that has come to y: `stays` are left of `among`, and what was seen goes by the cycle to before e
+  pub record Swept (c among x y e stays : ℕ) : Type 0 where
+    pub from : x ≤ y
+    pub some : x < e
+    pub is : stays ≡ steadyOver π among x (min y e)
+    pub lasts : (u : ℕ) → u < π .users → has stays u ≡ true → Lasting (λ v. holdsAny π v u) c x y e
+
+  pub swept-none : (c among x b : ℕ) → x < b → among < 2 ^ π .users → Swept c among x x b among
+  swept-none c among x b l small =
+      record {
+        from = le-refl x;
+        some = l;
+        is = steady-all among x (min x b) (omega arith) small;
+        lasts = λ u m h. record { each = λ v k p q r. absurd (omega arith) };
+      }
+
+  module _ {c among x y e stays : ℕ} (w : Swept c among x y e stays) where
+    pub swept-more : π .users ≤ 64 → {set until era e′ : ℕ} → y < e → HeldAmong π c stays y set until era → e′ ≡ min e era
+        → Swept c among x until e′ set
+    swept-more few {set} {until} {era} {e′} l h ee =
+        record {
+          from = omega (arith, w .from, h .after);
+          some = omega (arith, w .from, h .longer);
+          is =
+              steady-is among x (min until e′) set small
+              (λ u m k. (steady-out among x (min y e) u m (left u m k) .0, λ v p q. lasting-at (last u m k) v p (omega arith) (omega arith)))
+              (λ u m k g. stay u m (steady-in among x (min y e) u m k (λ v p q. g v p (omega (arith, h .after, h .longer)))) (g y (w .from) (omega (arith, h .after, h .longer))));
+          lasts = last;
+        }
       where
-        same : (u : ℕ) → u < π .users → (v : ℕ) → y ≤ v → v < z → holdsAny π v u ≡ holdsAny π y u
-        same u l v p q = sym (holder v u l) ∙ ap (λ (x : ℕ). has x u) (h .stretch .fixed v p (omega arith)) ∙ holder y u l
+        set-is : set ≡ setOf (π .users) (λ u. has stays u && holdsAny π y u)
+        set-is = h .is ∙ held-of few stays y
 
-        held-of : (x v : ℕ) → intersection x (holdersAt π v) ≡ setOf (π .users) (λ u. has x u && holdsAny π v u)
-        held-of x v = unfold holdersAt in intersection-of (π .users) x (holdsAny π v) few
+        small : set < 2 ^ π .users
+        small = rw set-is (setOf-lt (π .users) _)
 
-  -- from x, of which the stretch is known, to before e
-  pub steady-turned : (c x set until era e among : ℕ) {stays y : ℕ} → 0 < c → HeldAt π c x set until era → e ≤ era → y ≡ min e (x + c)
-      → stays ≡ steadyOver π among x y → stays ≡ steadyOver π among x e
-  steady-turned c x set until era e among {stays} {y} pos h l ey es =
-      es
-      ∙ steady-is among x e _ (steady-small among x y)
-      (λ u k g. let p = steady-out among x y u k g in (
-        p .0,
-        λ v a b. sym (holder v u k) ∙ turned (holdersAt π) c x e pos (λ w m n. h .stretch .turns w m (omega arith)) (λ w. has w u ≡ true)
-            (λ w m n r. holder w u k ∙ p .1 w m (omega arith)) v a b,
-      ))
-      (λ u k g f. steady-in among x y u k g (λ v a b. f v a (omega arith)))
+        both : (u : ℕ) → u < π .users → has set u ≡ (has stays u && holdsAny π y u)
+        both u m = ap (λ (z : ℕ). has z u) set-is ∙ has-below (π .users) _ u m
+
+        kept : (u : ℕ) → u < π .users → has set u ≡ true → has stays u ≡ true
+        kept u m k = and-yes (has stays u) (holdsAny π y u) (sym (both u m) ∙ k) .0
+
+        left : (u : ℕ) → u < π .users → has set u ≡ true → has (steadyOver π among x (min y e)) u ≡ true
+        left u m k = ap (λ (z : ℕ). has z u) (sym (w .is)) ∙ kept u m k
+
+        stay : (u : ℕ) → u < π .users → has (steadyOver π among x (min y e)) u ≡ true → holdsAny π y u ≡ true → has set u ≡ true
+        stay u m k g = both u m ∙ and-both _ _ (ap (λ (z : ℕ). has z u) (w .is) ∙ k) g
+
+        last : (u : ℕ) → u < π .users → has set u ≡ true → Lasting (λ v. holdsAny π v u) c x until e′
+        last u m k = lasting-on (lasting-shorter (w .lasts u m (kept u m k)) (le-refl x) (le-refl y) (omega arith))
+            (lasting-shorter (h .lasts u m k) (le-refl y) (le-refl until) (omega arith)) (le-refl e′)
+
+    -- a whole cycle, or all that goes by the cycle
+    pub swept-all : 0 < c → min e (x + c) ≤ y → stays ≡ steadyOver π among x e
+    swept-all pos l =
+        ⊎-elim
+        (λ (b : y < e).
+        w .is
+        ∙ steady-is among x e _ (steady-small among x (min y e))
+        (λ u m k. (
+          steady-out among x (min y e) u m k .0,
+          λ v p q. lasting-turned (w .lasts u m (ap (λ (z : ℕ). has z u) (w .is) ∙ k)) pos (omega arith) v p q,
+        ))
+        (λ u m k g. steady-in among x (min y e) u m k (λ v p q. g v p (omega arith))))
+        (λ (b : e ≤ y). let z : min y e ≡ e = omega arith in rw z at (w .is))
+        (lt-or-le y e)
+
+    -- nobody is left
+    pub swept-over : (b : ℕ) → e ≤ b → stays ≡ 0 → 0 ≡ steadyOver π among x b
+    swept-over b l z = steady-over among x (min y e) b (omega (arith, w .from, w .some)) (omega arith) (w .is) z

@@ -9,7 +9,7 @@ pub enum Answer {
     Refused(u8),
 }
 
-// Who holds a permission at a minute; before `until` that stays so, and before `era` it goes by the cycle.
+// Who holds a permission at a minute; to before `until` all of them do, and, by the cycle, to before `era`.
 pub struct Held {
     pub set: u64,
     pub until: u32,
