@@ -2,7 +2,7 @@
 --     stage-lower, stage-higher, stage-early, stage-over, stage-off, stage-past, stage-on     a row's stage, by the tests of the code
 --     source-read, window-read                                                                 a row, as it was read
 --     Narrowed, narrow-none, narrow-up, narrow-down                                            the rows that are left to look at
---     row-found, row-none                                                                      the row, or that there is none
+--     row-found, row-none, row-there                                                           the row, or that there is none
 -- Assumes nothing.
 use Prim.Native.Nat.{ℕ, _+_, _-_, _*_, _%_, _≤_, _<_}
 use mathlib.Core.Path.{_≡_, refl, sym, _∙_, ap, subst}
@@ -14,7 +14,7 @@ use native.Mathlib.Omega.{arith}
 use borrow.Author.Tests.{eqb-true, eq-eqb}
 use lib.Dec.{eqb}
 use Rattle.ground.proofs.BoolLaws.{and-yes, and-both, lt-or-le, not-yes}
-use Rattle.ground.proofs.FromLaws.{is-first}
+use Rattle.ground.proofs.FromLaws.{first-is, is-first}
 use Rattle.minutes.specs.Minutes.{Window, covers}
 use Rattle.minutes.proofs.WindowLaws.{In, covers-in, in-covers}
 use Rattle.table.specs.TableBytes.{cycleOf, rowsOf, rowAtByte, rowOf}
@@ -116,6 +116,13 @@ module _ (s : List ℕ) (a : tableJudged s ≡ 0) (r t : ℕ) where
             let z = parts m h in
             omega (arith, one-row s a v m t (omega arith) l (y .0 ∙ sym (z .0)) (in-covers (y .1)) (in-covers (z .1))));
       })
+
+-- where there is one, it is of the role and covers the minute
+pub row-there : (s : List ℕ) (r t k : ℕ) → k ≡ rowFor s r t → k < rowsOf s → (sourceOf s k ≡ r) × (covers (cycleOf s) (rowOf s k .window) t ≡ true)
+unfolding rowFor
+row-there s r t k e l =
+    let z = and-yes (eqb (sourceOf s k) r) (covers (cycleOf s) (rowOf s k .window) t) (first-is 0 (rowsOf s) (coversFor s r t) k e .passes l) in
+    (eqb-true (sourceOf s k) r (z .0), z .1)
 
 -- rows a to before b are left to look at
 pub record Narrowed (s : List ℕ) (r t a b : ℕ) : Type 0 where

@@ -51,16 +51,16 @@ fn before(a: usize, b: usize, step: usize) -> usize
     ensures { λ r. ⌜ (a ≤ r) × (a < b → r < b) ⌝ }
 {
     let half = (b - a) / 2;
-    if step < half {
-        b - 1 - step
-    } else {
-        a + half
-    }
+    if step < half { b - 1 - step } else { a + half }
 }
 
 // The next step: each about twice the one before.
 fn wider(step: usize) -> usize {
-    if step < 4294967296 { 2 * step + 1 } else { step }
+    if step < 4294967296 {
+        2 * step + 1
+    } else {
+        step
+    }
 }
 
 // A row, or the number of rows; and where a search at a later minute may begin, which promises nothing.
