@@ -1,33 +1,33 @@
--- How far a record stays as it is at a minute.
+-- How far a record that holds at a minute goes on holding.
 --     behind-none, behind-more             the pairs that end by phase x, which decide nothing
 --     reach-off, reach-on, reach-past      the first pair that ends after x decides, or there is none
---     span-before, span-over, span-in      by the record's dates
+--     span-out, span-gap, span-in          out of the record's dates, between its pairs, and in both
 --     spans-none, spans-more, spans-all    the records so far
 --     record-ready                         a record of accepted records
 -- Assumes nothing.
 use Prim.Native.Nat.{ℕ, zero, suc, _+_, _-_, _*_, _%_, _≤_, _<_, min}
 use mathlib.Core.Path.{_≡_, refl, sym, ap, ap₂, _∙_, subst}
 use mathlib.Core.Logic.{⊎-elim, _⊎_, inl, inr}
-use mathlib.Core.Bool.{Bool, true, false, _&&_}
+use mathlib.Core.Bool.{Bool, true, false}
 use mathlib.Core.List.{List}
-use native.Mathlib.Nat.{le-refl, add-mod-right, eq-or-lt-of-le, le-of-suc-le-suc}
+use native.Mathlib.Nat.{le-refl, eq-or-lt-of-le, le-of-suc-le-suc}
 use native.Mathlib.Omega.{arith}
-use borrow.Author.Tests.{lt-ltb, le-ltb, le-leb, lt-leb}
-use lib.Dec.{leb, ltb}
+use borrow.Author.Tests.{lt-ltb, le-ltb, le-leb, lt-leb, leb-true, ltb-true}
 use Rattle.ground.specs.Choice.{pick}
 use Rattle.ground.specs.Judgement.{inTurn}
-use Rattle.ground.proofs.BoolLaws.{lt-or-le}
+use Rattle.ground.proofs.BoolLaws.{lt-or-le, and-yes, clash}
 use Rattle.ground.proofs.SearchLaws.{any-none-of}
-use Rattle.bitset.specs.Sets.{insert}
-use Rattle.bitset.proofs.SetLaws.{setOf-none, setOf-more}
+use Rattle.bitset.specs.Sets.{has, insert}
+use Rattle.bitset.proofs.SetLaws.{setOf-none, setOf-more, has-below}
 use Rattle.minutes.specs.Minutes.{E}
-use Rattle.minutes.proofs.StretchLaws.{stretch-both, stretch-of, stretch-constant, phase-on}
+use Rattle.minutes.specs.Lasting.{Lasting}
+use Rattle.minutes.proofs.LastingLaws.{phase-on, phase-turned}
 use Rattle.hours.specs.Hours.{Hours, holds}
 use Rattle.hours.specs.HoursBytes.{offsetAt, lengthAt, pairAt, pairsAt, hoursAt, pairsBefore}
 use Rattle.hours.specs.HoursRefusals.{earliest, recordJudged}
 use Rattle.hours.specs.HoursWell.{PairWell}
 use Rattle.hours.specs.Inside.{datesHold, pairsHold, recordsThat, holding}
-use Rattle.hours.proofs.HoldsLaws.{spanAt, pairs-yes, pairs-no, holds-parts}
+use Rattle.hours.proofs.HoldsLaws.{spanAt, pairs-yes, pairs-no, holds-parts, holds-in, holds-out}
 use Rattle.hours_reader.proofs.RecordLaws.{pairs-each, hours-well}
 use Rattle.hours_reader.proofs.WalkLaws.{Passed, passed-none, passed-more, passed-end, passed-fine}
 use Rattle.hours_times.specs.Spans.{RecordReady, PhaseSpan, RecordSpan, RecordsSpan}
@@ -113,59 +113,52 @@ behind-none s at x = record { each = λ i l. absurd (omega arith) }
 
 -- ---- dates
 module _ (c : ℕ) (h : Hours) (t : ℕ) where
-  -- outside its dates the record does not hold
-  out : (v : ℕ) → (v < h .begin) ⊎ (h .end ≤ v) → holds c h v ≡ false
-  unfolding datesHold
-  out v (inl l) = holds-parts c h v ∙ rw (lt-leb _ _ l) refl
-  out v (inr l) = holds-parts c h v ∙ and-out (leb (h .begin) v)
-    where
-      and-out : (b : Bool) → (b && ltb v (h .end) && pairsHold (v % c) h) ≡ false
-      and-out true = rw (le-ltb _ _ l) refl
-      and-out false = refl
-
-  -- inside them its pairs decide
+  -- inside its dates the pairs of a record decide
   inside : (v : ℕ) → h .begin ≤ v → v < h .end → holds c h v ≡ pairsHold (v % c) h
   unfolding datesHold
   inside v l m = holds-parts c h v ∙ rw (le-leb _ _ l, lt-ltb _ _ m) refl
 
-  -- where it does not hold up to minute n
-  never-to : (n : ℕ) → t < n → ((v : ℕ) → t ≤ v → v < n → (v < h .begin) ⊎ (h .end ≤ v)) → RecordSpan c h t false n n
-  never-to n l k =
-      record {
-        is = sym (out t (k t (le-refl t) l));
-        stretch = stretch-constant false l (λ v p q. out v (k v p q));
-      }
+  dates-in : datesHold t h ≡ true → (h .begin ≤ t) × (t < h .end)
+  unfolding datesHold
+  dates-in d = let p = and-yes _ _ d in (leb-true _ _ (p .0), ltb-true _ _ (p .1))
 
-  pub span-before : (b : ℕ) → b ≡ h .begin → t < b → RecordSpan c h t false b b
-  span-before b e l = never-to b l (λ v p q. inl (omega arith))
+  -- it does not hold, by its dates or by its pairs
+  off : holds c h t ≡ false → t < E → RecordSpan c h t false E E
+  off e l = record { is = sym e; lasts = λ z. clash false z refl; after = l; longer = l; era-most = le-refl E }
 
-  pub span-over : (e n : ℕ) → e ≡ h .end → e ≤ t → t < n → RecordSpan c h t false n n
-  span-over e n q l m = never-to n m (λ v p k. inr (omega arith))
+  pub span-out : {d : Bool} → d ≡ datesHold t h → d ≡ false → t < E → RecordSpan c h t false E E
+  span-out ed e l = off (sym (holds-out c h t _ ed e)) l
 
-  pub span-in : (b e x stop until : ℕ) (on : Bool) → b ≡ h .begin → e ≡ h .end → b ≤ t → t < e → x ≡ t % c → PhaseSpan c h x on stop
-      → until ≡ min e (t + (stop - x)) → RecordSpan c h t on until e
-  span-in b e x stop until on eb ee l m ex p eu =
-      record {
-        is = p .is x (le-refl x) (p .after) ∙ ap (λ (y : ℕ). pairsHold y h) ex ∙ sym (inside t (omega arith) (omega arith));
-        stretch =
-            record {
-              after = omega (arith, p .after);
-              fixed = λ v a k. same v a k ∙ sym (same t (le-refl t) (omega (arith, p .after)));
-              longer = m;
-              turns = λ v a k.
-                  inside (v + c) (omega arith) (omega arith)
-                  ∙ ap (λ (y : ℕ). pairsHold y h) (add-mod-right v c)
-                  ∙ sym (inside v (omega arith) (omega arith));
-            };
-      }
-    where
-      same : (v : ℕ) → t ≤ v → v < until → holds c h v ≡ on
-      same v a k =
-          let on-time : v % c ≡ t % c + (v - t) = phase-on c t v a (omega (arith, p .in-cycle)) in
-          inside v (omega arith) (omega arith) ∙ sym (p .is (v % c) (omega arith) (omega arith))
+  module _ (x stop : ℕ) (on : Bool) (ex : x ≡ t % c) (p : PhaseSpan c h x on stop) where
+    pub span-gap : {d : Bool} → d ≡ datesHold t h → d ≡ true → on ≡ false → t < E → RecordSpan c h t false E E
+    span-gap ed e z l = off (sym (holds-in c h t _ ed e x on ex (p .is x (le-refl x) (p .after))) ∙ z) l
+
+    -- it holds: to where its pair ends, and its dates
+    pub span-in : {d : Bool} (until era : ℕ) → d ≡ datesHold t h → d ≡ true → on ≡ true → 0 < c → h .end ≤ E → t < until → until ≤ t + (stop - x)
+        → era ≡ h .end → RecordSpan c h t true until era
+    span-in until era ed e z pos most l m ee =
+        let w = dates-in (sym ed ∙ e) in
+        record {
+          is = sym z ∙ holds-in c h t _ ed e x on ex (p .is x (le-refl x) (p .after));
+          lasts = λ o.
+              record {
+                each = λ v k a b d.
+                    inside (v + k * c) (omega (arith, w .0)) (omega (arith, ee))
+                    ∙ ap (λ (y : ℕ). pairsHold y h) (phase-turned c v k pos)
+                    ∙ same v a b;
+              };
+          after = l;
+          longer = omega (arith, w .1);
+          era-most = omega (arith, most);
+        }
+      where
+        same : (v : ℕ) → t ≤ v → v < until → pairsHold (v % c) h ≡ true
+        same v a b =
+            let on-time : v % c ≡ t % c + (v - t) = phase-on c t v a (omega (arith, p .in-cycle)) in
+            sym (p .is (v % c) (omega arith) (omega arith)) ∙ z
 
 -- ---- records
--- the walk is past k of the h records, whose stretch is known
+-- the walk is past k of the h records, of which is known which hold, and how far
 pub record Spanned (s : List ℕ) (c from h t set until era at k : ℕ) : Type 0 where
   pub passed : Passed s from h k at
   pub span : RecordsSpan s c from k t set until era
@@ -175,13 +168,7 @@ unfolding holding recordsThat
 spans-none s c from h t l =
     record {
       passed = passed-none s from h;
-      span =
-          record {
-            is = setOf-none _;
-            stretch = stretch-constant 0 l (λ v p q. sym (setOf-none _));
-            until-most = le-refl E;
-            era-most = le-refl E;
-          };
+      span = record { is = setOf-none _; lasts = λ k m. absurd (omega arith); after = l; longer = l; era-most = le-refl E };
     }
 
 module _ {s : List ℕ} {c from h t set until era at k : ℕ} (w : Spanned s c from h t set until era at k) where
@@ -191,23 +178,47 @@ module _ {s : List ℕ} {c from h t set until era at k : ℕ} (w : Spanned s c f
       setOf-more k _ l
       ∙ ap (λ (i : ℕ). pick (holds c (hoursAt s i) v) (insert (holding s c from k v) k) (holding s c from k v)) (sym (w .passed .here))
 
+  -- record k, and one before it, among one record more
+  last : (v : ℕ) → has (holding s c from (k + 1) v) k ≡ holds c (hoursAt s at) v
+  unfolding holding recordsThat
+  last v = has-below (k + 1) _ k (omega arith) ∙ ap (λ (i : ℕ). holds c (hoursAt s i) v) (sym (w .passed .here))
+
+  earlier : (i : ℕ) → i < k → (v : ℕ) → has (holding s c from (k + 1) v) i ≡ has (holding s c from k v) i
+  unfolding holding recordsThat
+  earlier i l v = has-below (k + 1) _ i (omega arith) ∙ sym (has-below k _ i l)
+
   pub spans-more : {on : Bool} {until′ era′ set₁ until₁ era₁ at₁ : ℕ} → k < h → h ≤ 64 → RecordSpan c (hoursAt s at) t on until′ era′
       → set₁ ≡ pick on (insert set k) set → until₁ ≡ min until until′ → era₁ ≡ min era era′ → at₁ ≡ at + 10 + 4 * pairsAt s at
       → Spanned s c from h t set₁ until₁ era₁ at₁ (k + 1)
-  spans-more {on} {until′} {era′} l top r es eu ee ea =
+  spans-more {on} {until′} {era′} {set₁} {until₁} {era₁} l top r es eu ee ea =
       record {
         passed = passed-more (w .passed) l ea;
         span =
             record {
-              is = es ∙ ap₂ (λ (b : Bool) (x : ℕ). pick b (insert x k) x) (r .is) (w .span .is) ∙ sym (more (omega arith) t);
-              stretch =
-                  rw (eu, ee)
-                  (stretch-of (stretch-both (w .span .stretch) (r .stretch) (λ x b. pick b (insert x k) x)) (λ x. x) E (omega (arith, w .span .until-most))
-                  (omega (arith, w .span .era-most)) (λ v m. more (omega arith) v));
-              until-most = omega (arith, w .span .until-most);
+              is = set-is;
+              lasts = λ i m z.
+                  ⊎-elim
+                  (λ (e : i ≡ k). rw e (of-last (r .lasts (r .is ∙ sym (last t) ∙ member k ∙ (rw e at z)))))
+                  (λ (b : i < k). of-earlier i b (w .span .lasts i b (ap (λ (x : ℕ). has x i) (w .span .is) ∙ sym (earlier i b t) ∙ member i ∙ z)))
+                  (eq-or-lt-of-le (omega arith));
+              after = omega (arith, w .span .after, r .after);
+              longer = omega (arith, w .span .longer, r .longer);
               era-most = omega (arith, w .span .era-most);
             };
       }
+    where
+      set-is : set₁ ≡ holding s c from (k + 1) t
+      set-is = es ∙ ap₂ (λ (b : Bool) (x : ℕ). pick b (insert x k) x) (r .is) (w .span .is) ∙ sym (more (omega arith) t)
+
+      member : (i : ℕ) → has (holding s c from (k + 1) t) i ≡ has set₁ i
+      member i = ap (λ (x : ℕ). has x i) (sym set-is)
+
+      of-last : Lasting (holds c (hoursAt s at)) c t until′ era′ → Lasting (λ v. has (holding s c from (k + 1) v) k) c t until₁ era₁
+      of-last y = record { each = λ v j a b d. last (v + j * c) ∙ y .each v j a (omega arith) (omega arith) }
+
+      of-earlier : (i : ℕ) → i < k → Lasting (λ v. has (holding s c from k v) i) c t until era
+          → Lasting (λ v. has (holding s c from (k + 1) v) i) c t until₁ era₁
+      of-earlier i m y = record { each = λ v j a b d. earlier i m (v + j * c) ∙ y .each v j a (omega arith) (omega arith) }
 
   pub spans-all : h ≤ k → RecordsSpan s c from h t set until era
   spans-all l = subst (λ (n : ℕ). RecordsSpan s c from n t set until era) (passed-end (w .passed) l) (w .span)

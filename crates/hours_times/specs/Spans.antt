@@ -1,12 +1,13 @@
--- What the steps promise each other and the crates above, which no reader has to believe: how far what a record says at a minute stays so, and how far
--- it repeats with the cycle.
+-- What the steps promise each other and the crates above, which no reader has to believe: how far a record that holds at a minute goes on holding, and
+-- how far it does so again with the cycle.
 use Prim.Native.Nat.{ℕ, _+_, _*_, _≤_, _<_}
 use mathlib.Core.Path.{_≡_}
-use mathlib.Core.Bool.{Bool}
+use mathlib.Core.Bool.{Bool, true}
 use mathlib.Core.List.{List}
 use lib.ListN.{length}
+use Rattle.bitset.specs.Sets.{has}
 use Rattle.minutes.specs.Minutes.{E}
-use Rattle.minutes.specs.Stretch.{Stretch}
+use Rattle.minutes.specs.Lasting.{Lasting}
 use Rattle.hours.specs.Hours.{Hours, holds}
 use Rattle.hours.specs.HoursBytes.{pairsAt, hoursAt}
 use Rattle.hours.specs.HoursWell.{HoursWell}
@@ -23,14 +24,18 @@ pub record PhaseSpan (c : ℕ) (h : Hours) (x : ℕ) (on : Bool) (stop : ℕ) : 
   pub in-cycle : stop ≤ c
   pub is : (y : ℕ) → x ≤ y → y < stop → on ≡ pairsHold y h
 
--- `on` says whether h holds at t; how far that stays so, and how far it repeats
+-- `on` says whether h holds at t; where it does, it holds to before `until`, and, by the cycle of c minutes, to before `era`
 pub record RecordSpan (c : ℕ) (h : Hours) (t : ℕ) (on : Bool) (until era : ℕ) : Type 0 where
   pub is : on ≡ holds c h t
-  pub stretch : Stretch (holds c h) c t until era
+  pub lasts : on ≡ true → Lasting (holds c h) c t until era
+  pub after : t < until
+  pub longer : t < era
+  pub era-most : era ≤ E
 
--- the set has the numbers of the records that hold at t; how far it stays so, and how far it repeats
+-- the set has the numbers of the records that hold at t; each of them holds to before `until`, and, by the cycle of c minutes, to before `era`
 pub record RecordsSpan (s : List ℕ) (c from h t set until era : ℕ) : Type 0 where
   pub is : set ≡ holding s c from h t
-  pub stretch : Stretch (holding s c from h) c t until era
-  pub until-most : until ≤ E
+  pub lasts : (k : ℕ) → k < h → has set k ≡ true → Lasting (λ v. has (holding s c from h v) k) c t until era
+  pub after : t < until
+  pub longer : t < era
   pub era-most : era ≤ E

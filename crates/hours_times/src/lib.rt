@@ -1,6 +1,6 @@
-// How far what hours records say at a minute stays so: by their dates and pairs, with no walk over minutes.
+// Which hours records hold at a minute, and how far these go on holding: by their dates and pairs, with no walk over minutes.
 ghost use mathlib.Core.Path.{_≡_};
-ghost use Prim.Native.Nat.{_≤_, _<_};
+ghost use Prim.Native.Nat.{_%_, _≤_, _<_};
 ghost use Rattle.ground.specs.Judgement.{inTurn};
 ghost use Rattle.minutes.specs.Minutes.{E};
 ghost use Rattle.hours.specs.HoursBytes.{hoursAt};
@@ -13,14 +13,14 @@ struct Reach {
     stop: u32,
 }
 
-// Whether a record holds at a minute; the minute before which that stays so, and the minute before which it repeats with the cycle.
+// Whether a record holds at a minute; where it does, it holds to before `until`, and, by the cycle, to before `era`.
 pub struct Span {
     pub on: bool,
     pub until: u32,
     pub era: u32,
 }
 
-// The numbers of the records that hold at a minute; the minute before which these stay, and the minute before which they repeat with the cycle.
+// The numbers of the records that hold at a minute; each of them holds to before `until`, and, by the cycle, to before `era`.
 pub struct Spans {
     pub set: u64,
     pub until: u32,
@@ -57,33 +57,25 @@ fn pairs_span(s: &[u8], cycle: u32, at: usize, x: u32) -> Reach
     }
 }
 
-// Of the record at `at`, at minute t.
-pub fn record_span(s: &[u8], cycle: u32, at: usize, t: u32) -> Span
-    requires { ⌜ RecordReady (now s) cycle at × (0 < cycle) × (cycle ≤ 40320) × (t < E) ⌝ }
+// Of the record at `at`, at minute t, whose phase is x. A record that does not hold bounds nothing.
+pub fn record_span(s: &[u8], cycle: u32, at: usize, t: u32, x: u32) -> Span
+    requires { ⌜ RecordReady (now s) cycle at × (0 < cycle) × (cycle ≤ 40320) × (t < E) × (x ≡ t % cycle) ⌝ }
     ensures { λ r. ⌜ RecordSpan cycle (hoursAt (now (s .entry)) at) t (r .on) (r .until) (r .era) ⌝ }
 {
-    let begin = endian::read32(s, at);
-    if t < begin {
-        return Span {
-            on: false,
-            until: begin,
-            era: begin,
-        };
+    if hours::dates_hold(s, at, t) {
+        let p = pairs_span(s, cycle, at, x);
+        if p.on {
+            return Span {
+                on: true,
+                until: t + (p.stop - x),
+                era: endian::read32(s, at + 4),
+            };
+        }
     }
-    let end = endian::read32(s, at + 4);
-    if end <= t {
-        return Span {
-            on: false,
-            until: minutes::END,
-            era: minutes::END,
-        };
-    }
-    let x = minutes::phase(cycle, t);
-    let p = pairs_span(s, cycle, at, x);
     Span {
-        on: p.on,
-        until: minutes::earlier(end, t + (p.stop - x)),
-        era: end,
+        on: false,
+        until: minutes::END,
+        era: minutes::END,
     }
 }
 
@@ -92,13 +84,14 @@ pub fn records_span(s: &[u8], cycle: u32, from: usize, h: usize, t: u32) -> Span
     requires { ⌜ (inTurn (recordJudged (now s) cycle from) h ≡ 0) × (h ≤ 32) × (0 < cycle) × (cycle ≤ 40320) × (t < E) ⌝ }
     ensures { λ r. ⌜ RecordsSpan (now (s .entry)) cycle from h t (r .set) (r .until) (r .era) ⌝ }
 {
+    let x = minutes::phase(cycle, t);
     let mut set = 0;
     let mut until = minutes::END;
     let mut era = minutes::END;
     let mut k = 0;
     let mut at = from;
     while k < h {
-        let r = record_span(s, cycle, at, t);
+        let r = record_span(s, cycle, at, t, x);
         if r.on {
             set = bitset::with(set, k as u32);
         }

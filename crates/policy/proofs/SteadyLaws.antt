@@ -2,6 +2,7 @@
 --     steady-all                    with no minute it is everyone of the set
 --     steady-join, steady-more      two stretches, one after the other
 --     steady-over                   nobody is left
+--     holder                        whether one is among those who hold a permission
 --     swept-none, swept-more        a sweep, step by step
 --     swept-all                     where it has passed a whole cycle, what goes by the cycle is known
 --     swept-over                    nobody is left in it
@@ -86,7 +87,7 @@ module _ (π : Policy) where
   steady-over among a x b l m es e =
       steady-more among a x b l m (sym e ∙ es) (steady-is 0 x b 0 (pow-pos (π .users)) (λ u k h. clash _ h (has-none u)) (λ u k h g. h))
 
-  holder : (v u : ℕ) → u < π .users → has (holdersAt π v) u ≡ holdsAny π v u
+  pub holder : (v u : ℕ) → u < π .users → has (holdersAt π v) u ≡ holdsAny π v u
   unfolding holdersAt
   holder v u l = has-below (π .users) (holdsAny π v) u l
 

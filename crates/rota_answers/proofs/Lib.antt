@@ -1,3 +1,4 @@
 pub mod GatherRows
 pub mod QuestionLaws
 pub mod AskedLaws
+pub mod HoldersUp

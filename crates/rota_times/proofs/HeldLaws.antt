@@ -1,13 +1,23 @@
--- Those who hold a permission of an accepted rota go by the hours records that hold.
+-- Those who hold a permission of an accepted rota do so as long as the hours records that hold.
+--     cycle-is, cycle-some, cycle-most    the cycle of the layout
+--     few-users, users-are                the users of the policy
+--     held                                who holds a permission, and how far, by the hours records
 -- Assumes nothing.
-use Prim.Native.Nat.{ℕ, _≤_, _<_}
-use mathlib.Core.Path.{_≡_, refl, sym}
+use Prim.Native.Nat.{ℕ, _+_, _*_, _≤_, _<_}
+use mathlib.Core.Path.{_≡_, refl, sym, ap, _∙_, subst}
+use mathlib.Core.Bool.{true}
 use mathlib.Core.List.{List}
 use native.Mathlib.Omega.{arith}
+use borrow.Author.Tests.{ltb-true}
+use Rattle.ground.proofs.BoolLaws.{and-yes}
+use Rattle.bitset.specs.Sets.{has, intersection}
+use Rattle.bitset.proofs.SetLaws.{has-setOf, has-intersection}
 use Rattle.minutes.specs.Minutes.{E}
-use Rattle.minutes.proofs.StretchLaws.{stretch-of}
+use Rattle.hours.specs.Inside.{recordsThat, holding}
 use Rattle.hours_times.specs.Spans.{RecordsSpan}
-use Rattle.policy.specs.Held.{HeldAt}
+use Rattle.policy.specs.Policy.{holdsAny}
+use Rattle.policy.specs.Held.{HeldAmong}
+use Rattle.policy.proofs.SteadyLaws.{holder}
 use Rattle.rota.specs.Rota.{policyOf}
 use Rattle.rota.specs.RotaBytes.{rotaOf, cycleOf, usersOf}
 use Rattle.rota.specs.Inside.{Located}
@@ -15,6 +25,7 @@ use Rattle.rota.specs.declared.Layout.{Layout}
 use Rattle.rota.proofs.LocatedLaws as located
 use Rattle.rota_answers.specs.Gathered.{holdersBy}
 use Rattle.rota_answers.proofs.AskedLaws.{holders-at}
+use Rattle.rota_answers.proofs.HoldersUp.{holders-up}
 
 module _ (s : List ℕ) (l : Layout) (w : Located s l) where
   pub cycle-is : l .counts .cycle ≡ cycleOf s
@@ -34,12 +45,42 @@ module _ (s : List ℕ) (l : Layout) (w : Located s l) where
   unfolding rotaOf
   users-are = refl
 
-  pub held : (t : ℕ) → t < E → {set until era x : ℕ} → RecordsSpan s (l .counts .cycle) (l .«hours_at») (l .counts .hours) t set until era
-      → x ≡ holdersBy s set → HeldAt (policyOf (rotaOf s)) (cycleOf s) t x until era
-  held t early {set} {until} {era} {x} r e =
-      record {
-        is = holders-at s l w set t early (r .is) x e;
-        stretch = rw (← cycle-is) (stretch-of (r .stretch) (holdersBy s) E (r .until-most) (r .era-most) (λ v m. sym (holders-at s l w _ v m refl _ refl)));
-        until-most = r .until-most;
+  -- the hours records that hold at t
+  abbrev onAt : ℕ → ℕ
+  onAt t = holding s (l .counts .cycle) (l .«hours_at») (l .counts .hours) t
+
+  on-below : (t k : ℕ) → has (onAt t) k ≡ true → k < l .counts .hours
+  unfolding holding recordsThat
+  on-below t k h = ltb-true _ _ (and-yes _ _ (sym (has-setOf (l .counts .hours) _ k) ∙ h) .0)
+
+  pub held : (t among : ℕ) → t < E → {set until era x y : ℕ} → RecordsSpan s (l .counts .cycle) (l .«hours_at») (l .counts .hours) t set until era
+      → x ≡ holdersBy s set → y ≡ intersection among x → HeldAmong (policyOf (rotaOf s)) (cycleOf s) among t y until era
+  held t among early {set} {until} {era} {x} {y} r ex ey =
+      subst (λ (c : ℕ). HeldAmong (policyOf (rotaOf s)) c among t y until era) cycle-is
+      (record {
+        is = ey ∙ ap (intersection among) (holders-at s l w set t early (r .is) x ex);
+        lasts = λ u m h.
+            record {
+              each = λ v k a b d.
+                  still u m (v + k * l .counts .cycle) (omega (arith, r .era-most)) (λ i z. r .lasts i (below i z) z .each v k a b d) (holds-now u m h);
+            };
+        after = r .after;
+        longer = r .longer;
         era-most = r .era-most;
-      }
+      })
+    where
+      below : (i : ℕ) → has set i ≡ true → i < l .counts .hours
+      below i z = on-below t i (ap (λ (n : ℕ). has n i) (sym (r .is)) ∙ z)
+
+      holds-now : (u : ℕ) → u < policyOf (rotaOf s) .users → has y u ≡ true → has (holdersBy s set) u ≡ true
+      holds-now u m h =
+          ap (λ (n : ℕ). has n u) (sym ex)
+          ∙ and-yes (has among u) (has x u) (sym (has-intersection among x u (omega (arith, few-users))) ∙ ap (λ (n : ℕ). has n u) (sym ey) ∙ h) .1
+
+      -- where the hours of the set hold at q, whoever holds a permission by them does at q
+      still : (u : ℕ) → u < policyOf (rotaOf s) .users → (q : ℕ) → q < E → ((i : ℕ) → has set i ≡ true → has (onAt q) i ≡ true)
+          → has (holdersBy s set) u ≡ true → holdsAny (policyOf (rotaOf s)) q u ≡ true
+      still u m q n f h =
+          sym (holder (policyOf (rotaOf s)) q u m)
+          ∙ ap (λ (z : ℕ). has z u) (sym (holders-at s l w (onAt q) q n refl _ refl))
+          ∙ holders-up s set (onAt q) f u h

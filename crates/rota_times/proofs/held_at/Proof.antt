@@ -14,8 +14,11 @@ records-span-requires c κs = let p = c .before .before .before .pre in (records
 holders-by-requires : tie.Need-holders-by-requires
 holders-by-requires c κs = c .before .before .before .before .pre .0
 
+both-requires : tie.Need-both-requires
+both-requires c κs = search needs
+
 returns : tie.Need-returns
-returns c = let p = c .before .before .before .before .before .pre in held _ _ (p .0) _ (p .1) (c .before .records-span .ensures) (c .holders-by .ensures)
+returns c = let p = c .before .before .before .before .before .before .pre in held _ _ (p .0) _ _ (p .1) (c .before .before .records-span .ensures) (c .before .holders-by .ensures) (c .both .ensures)
 
 pub held-at-spec : {M : Type 1} → statement M
-held-at-spec = tie.close (tie.spec cast-records-span records-span-requires holders-by-requires returns)
+held-at-spec = tie.close (tie.spec cast-records-span records-span-requires holders-by-requires both-requires returns)
