@@ -2,6 +2,7 @@
 --     steady-all                    with no minute it is everyone of the set
 --     steady-join, steady-more      two stretches, one after the other
 --     steady-over                   nobody is left
+--     steady-small                  the set by its members
 --     holder                        whether one is among those who hold a permission
 --     swept-none, swept-more        a sweep, step by step
 --     swept-all                     where it has passed a whole cycle, what goes by the cycle is known
@@ -48,7 +49,7 @@ module _ (π : Policy) where
       go v m true e = rw (e, h v (leb-true a v e) m) refl
 
   -- the set by its members
-  steady-small : (among a b : ℕ) → steadyOver π among a b < 2 ^ π .users
+  pub steady-small : (among a b : ℕ) → steadyOver π among a b < 2 ^ π .users
   unfolding steadyOver
   steady-small among a b = setOf-lt (π .users) _
 
