@@ -53,7 +53,7 @@ module _ (π : Policy) where
   unfolding steadyOver
   steady-small among a b = setOf-lt (π .users) _
 
-  steady-out : (among a b u : ℕ) → u < π .users → has (steadyOver π among a b) u ≡ true → (has among u ≡ true) × Throughout a b u
+  pub steady-out : (among a b u : ℕ) → u < π .users → has (steadyOver π among a b) u ≡ true → (has among u ≡ true) × Throughout a b u
   unfolding steadyOver
   steady-out among a b u l h = let p = and-yes _ _ (sym (has-below (π .users) _ u l) ∙ h) in (p .0, no-lapse a b u (p .1))
 
@@ -65,7 +65,7 @@ module _ (π : Policy) where
       (λ u l. eq-ext _ _ (λ h. let p = only u l h in and-both _ _ (p .0) (lapse-none a b u (p .1)))
       (λ h. let p = and-yes _ _ h in all u l (p .0) (no-lapse a b u (p .1))))
 
-  steady-in : (among a b u : ℕ) → u < π .users → has among u ≡ true → Throughout a b u → has (steadyOver π among a b) u ≡ true
+  pub steady-in : (among a b u : ℕ) → u < π .users → has among u ≡ true → Throughout a b u → has (steadyOver π among a b) u ≡ true
   unfolding steadyOver
   steady-in among a b u l h k = has-below (π .users) _ u l ∙ and-both _ _ h (lapse-none a b u k)
 
