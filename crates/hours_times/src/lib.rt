@@ -65,10 +65,13 @@ pub fn record_span(s: &[u8], cycle: u32, at: usize, t: u32, x: u32) -> Span
     if hours::dates_hold(s, at, t) {
         let p = pairs_span(s, cycle, at, x);
         if p.on {
+            let left = p.stop - x;
+            let until = t + left;
+            let era = endian::read32(s, at + 4);
             return Span {
                 on: true,
-                until: t + (p.stop - x),
-                era: endian::read32(s, at + 4),
+                until,
+                era,
             };
         }
     }

@@ -15,8 +15,9 @@ pub fn held_at(s: &[u8], l: Layout, t: u32, among: u64) -> Held
 {
     let n = l.counts;
     let hours = hours_times::records_span(s, n.cycle, l.hours_at, n.hours as usize, t);
+    let holders = rota_answers::holders_by(s, l, hours.set);
     Held {
-        set: bitset::both(among, rota_answers::holders_by(s, l, hours.set)),
+        set: bitset::both(among, holders),
         until: hours.until,
         era: hours.era,
     }

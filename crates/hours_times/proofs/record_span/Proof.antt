@@ -13,12 +13,12 @@ dates-hold-requires c κs = omega (arith, c .before .pre .0 .within)
 pairs-span-requires : tie.Need-pairs-span-requires
 pairs-span-requires c κs = let p = c .before .before .before .pre in (p .0, omega (arith, p .4, mod-lt (c .before .before .before .args .t) (p .1)))
 
-sub-t9 : tie.Need-sub-t9
-sub-t9 c = omega (arith, c .before .before .pairs-span .ensures .after)
+sub-left : tie.Need-sub-left
+sub-left c = omega (arith, c .before .before .pairs-span .ensures .after)
 
-add-t10 : tie.Need-add-t10
+add-until : tie.Need-add-until
 unfolding E
-add-t10 c = omega (arith, c .before .before .pairs-span .ensures .in-cycle, c .before .before .before .before .before .before .pre)
+add-until c = omega (arith, c .before .before .pairs-span .ensures .in-cycle, c .before .before .before .before .before .before .pre)
 
 add-read32 : tie.Need-add-read32
 add-read32 c = omega (arith, c .before .before .before .before .before .before .pre .0 .within)
@@ -49,8 +49,8 @@ record-span-spec =
     (tie.spec
     dates-hold-requires
     pairs-span-requires
-    sub-t9
-    add-t10
+    sub-left
+    add-until
     add-read32
     read32-requires
     returns

@@ -51,7 +51,7 @@ loop-again : tie.Need-loop-again Inv-loop μ-loop
 loop-again c =
     spans-more (c .before .before .before .before .before .before .loop .inv) (c .before .before .before .before .before .loop-test .taken) (omega (arith, c .before .before .before .before .before .before .before .before .before .pre .1)) (c .before .before .before .before .record-span .ensures)
     (⊎-elim (λ w. w .2 ∙ w .1 .ensures ∙ sym (pick-true _ _ _ (w .0 .taken))) (λ w. w .1 ∙ sym (pick-false _ _ _ (w .0 .left))) (c .before .before .before .if1 .came))
-    (c .before .before .earlier .ensures) (c .before .earlier2 .ensures) (c .next-record .ensures)
+    (omega (arith, c .before .before .earlier .ensures)) (omega (arith, c .before .earlier2 .ensures)) (c .next-record .ensures)
 
 returns : tie.Need-returns Inv-loop μ-loop
 returns c = spans-all (c .before .loop .inv) (c .loop-test .left)
