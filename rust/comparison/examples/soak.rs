@@ -5,11 +5,12 @@
 use std::time::Instant;
 
 use cases::case::{Case, Tally};
-use cases::generate::{Edges, call, weekly_rota};
+use cases::generate::{call, next_edge, weekly_rota};
 use cases::random::Random;
 use comparison::compare::service::{Both, Run};
 use reference::END;
 use reference::calendar;
+use reference::edges::Edges;
 use reference::service::{Call, State};
 
 /// A minute some way on: the same one, soon, at the next change, hours, days or weeks later.
@@ -17,8 +18,8 @@ fn next_minute(random: &mut Random, edges: &Edges, now: u32) -> u32 {
     let next = match random.below(64) {
         0..=3 => now,
         4..=19 => now + random.between(1, 60),
-        20..=43 => edges.after(now),
-        44..=47 => edges.after(now) - 1,
+        20..=43 => next_edge(edges, now),
+        44..=47 => next_edge(edges, now) - 1,
         48..=59 => now + random.between(60, 1_440),
         60..=62 => now + random.between(1_440, 10_080),
         _ => now + random.between(10_080, 40_320),

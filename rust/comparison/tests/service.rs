@@ -102,7 +102,7 @@ fn every_boundary() {
         let both = Both::new(generate::small_rota(&mut case.random));
         let (users, permissions) = (both.rota().users(), both.rota().permissions());
         let everyone = reference::set::below(users);
-        for t in both.edges.all_near_spans() {
+        for t in generate::edges_near_spans(&both.edges) {
             for now in [0, t.saturating_sub(1), t, t + 1] {
                 let mut run = Run::from(State { now, open: everyone });
                 run.call(case, &mut tally, &both, Call::Advance(t));

@@ -2,7 +2,8 @@
 //! what a call gives and the state that it leaves.
 
 use cases::case::{Case, Tally};
-use cases::generate::{self, Edges};
+use cases::generate;
+use reference::edges::Edges;
 use reference::policy::Policy;
 use reference::rota::Rota;
 use reference::service::{Call, State};
