@@ -6,8 +6,8 @@ use reference::set::{below, has};
 use reference::table::Row;
 use reference::{CYCLE_LIMIT, END, Refusal};
 
-use crate::ensure;
 use crate::rota::Rota;
+use crate::{ensure, sweep};
 
 pub const HEADER_SIZE: usize = 16;
 
@@ -128,11 +128,7 @@ impl<'a> Table<'a> {
     /// are sorted and no two of them share a minute.
     fn enabled(&self, source: u8, t: u32, phase: u32) -> Option<&'a Entry> {
         let rows = self.rows_of(source);
-        // Rows of earlier eras, and those of the era of `t` that do not start after the phase.
-        let after = rows.partition_point(|row| {
-            let row = decode(row);
-            row.end <= t || (row.begin <= t && u32::from(row.offset) <= phase)
-        });
+        let after = rows.partition_point(|row| is_before(row, t, phase));
         let row = decode(rows[..after].last()?);
         let enables = t < row.end && phase < row.cell_end();
         enables.then(|| &self.entries[row.derived as usize])
@@ -143,6 +139,13 @@ impl<'a> Table<'a> {
         let phase = t % self.cycle;
         (0..self.roles).filter_map(move |source| self.enabled(source, t, phase))
     }
+}
+
+/// Whether a row is of an earlier era than `t`, or of that of `t` and does not start after the phase.
+#[inline]
+fn is_before(row: &RowBytes, t: u32, phase: u32) -> bool {
+    let row = decode(row);
+    row.end <= t || (row.begin <= t && u32::from(row.offset) <= phase)
 }
 
 #[inline]
@@ -225,5 +228,73 @@ impl Policy for Table<'_> {
 
     fn holders(&self, t: u32) -> u64 {
         self.all_enabled(t).fold(0, |holders, entry| holders | u64_at(entry, 1))
+    }
+
+    fn staying(&self, open: u64, now: u32, m: u32) -> u64 {
+        let mut by_minute = ByMinute { table: self, spans: [Span::default(); 32] };
+        sweep::staying(self.cycle, open, now + 1, m + 1, |t, open| by_minute.held(t, open))
+    }
+}
+
+/// What a source gives at a minute and up to before `until`.
+#[derive(Clone, Copy, Default)]
+struct Span {
+    users: u64,
+    until: u32,
+    /// The end of the row that gives it.
+    end: u32,
+    /// How many rows of the source come before that minute.
+    after: usize,
+}
+
+/// A table with what its sources give at a minute, for many minutes, each later than the one
+/// before.
+struct ByMinute<'a> {
+    table: &'a Table<'a>,
+    spans: [Span; 32],
+}
+
+impl ByMinute<'_> {
+    /// Who of `open` holds a permission at `t`. Once everyone does, no further source matters.
+    fn held(&mut self, t: u32, open: u64) -> sweep::Held {
+        let phase = t % self.table.cycle;
+        let (mut missing, mut until, mut era) = (open, END, END);
+        for (source, span) in (0..self.table.roles).zip(&mut self.spans) {
+            if span.until <= t {
+                *span = self.table.span(source, span.after, t, phase);
+            }
+            if span.users & missing != 0 {
+                missing &= !span.users;
+                until = until.min(span.until);
+                era = era.min(span.end);
+                if missing == 0 {
+                    break;
+                }
+            }
+        }
+        sweep::Held { users: open & !missing, until, era }
+    }
+}
+
+impl Table<'_> {
+    /// What a source gives at `t`; `near` rows or so come before it.
+    fn span(&self, source: u8, near: usize, t: u32, phase: u32) -> Span {
+        let rows = self.rows_of(source);
+        let after = sweep::partition_near(rows, near, |row| is_before(row, t, phase));
+        // In the era of `t`, if the source has one there, and in this turn of the cycle.
+        let last = rows[..after].last().map(decode).filter(|row| t < row.end);
+        if let Some(row) = last.filter(|row| phase < row.cell_end()) {
+            let users = u64_at(&self.entries[row.derived as usize], 1);
+            let until = row.end.min(t + row.cell_end() - phase);
+            return Span { users, until, end: row.end, after };
+        }
+        let turn = t + (self.cycle - phase);
+        let next = rows.get(after).map(decode);
+        let until = match (last, next) {
+            (_, Some(next)) if next.begin <= t => next.end.min(t + u32::from(next.offset) - phase),
+            (Some(last), _) => last.end.min(turn),
+            (None, next) => next.map_or(END, |next| next.begin),
+        };
+        Span { users: 0, until, end: END, after }
     }
 }

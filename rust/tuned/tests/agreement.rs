@@ -2,14 +2,15 @@
 //! and cut, their rewriting byte for byte, lists of calls, and the calendar.
 
 use cases::case::{Case, Tally, cases};
-use cases::generate::{self, Edges, Sets};
+use cases::generate::{self, Sets};
 use cases::random::Random;
 use cases::{data, worst};
+use reference::edges::Edges;
 use reference::policy::{Policy, question};
 use reference::rota::Rota;
 use reference::service::{Lent, State, serve};
 use reference::table::Table;
-use reference::{END, Refusal, calendar, rewriting};
+use reference::{END, Refusal, calendar, rewriting, set};
 
 /// What was read, asked a few questions at such minutes and asked who holds anything.
 fn compare(
@@ -89,9 +90,10 @@ fn any_rota(random: &mut Random) -> Rota {
 }
 
 fn any_table(random: &mut Random) -> Table {
-    match random.below(4) {
+    match random.below(5) {
         0 => generate::table(random),
         1 => rewriting::table(&generate::small_rota(random)),
+        2 => generate::dense_table(random),
         _ => generate::small_table(random),
     }
 }
@@ -193,13 +195,87 @@ fn compare_rewritten(case: &mut Case, tally: &mut Tally, rota: &[u8]) {
     }
 }
 
+/// Who stays in a jump: jumps of all lengths, from where something changes or beside it.
+fn compare_staying(
+    case: &mut Case,
+    tally: &mut Tally,
+    bytes: &[u8],
+    quick: &impl Policy,
+    expected: &dyn Policy,
+    edges: &Edges,
+) {
+    let everyone = set::below(expected.users());
+    for _ in 0..8 {
+        let now = case.random.pick(&edges.spans) + case.random.below(2 * edges.cycle);
+        let now = now.saturating_sub(case.random.below(2 * edges.cycle)).min(END - 1);
+        let m = generate::jump(&mut case.random, edges, now);
+        for open in [everyone, case.random.bits() & everyone] {
+            let staying = expected.staying(open, now, m);
+            case.same(quick.staying(open, now, m), staying, bytes, (open, "from", now, "to", m));
+            tally.add(0);
+            tally.count_if(now == m, "at the same minute");
+            tally.count_if(staying != 0 && staying != open, "some stay");
+            tally.count_if(staying != 0 && m - now > 3 * edges.cycle, "long stays");
+            let shorter = edges.spans.windows(2).filter(|era| era[1] - era[0] < edges.cycle);
+            let within = shorter.filter(|era| now < era[0] && era[1] <= m).count() as u64;
+            tally.count_more(if staying != 0 { within } else { 0 }, "eras shorter than the cycle");
+            tally.count_if(staying != 0 && m == END - 1, "to the last minute");
+        }
+    }
+}
+
+const STAYS: [&str; 5] = [
+    "at the same minute",
+    "some stay",
+    "long stays",
+    "eras shorter than the cycle",
+    "to the last minute",
+];
+
+#[test]
+fn jumps_on_rotas() {
+    let mut tally = Tally::new("tuned jumps_on_rotas");
+    cases("tuned jumps_on_rotas", 12_000, |case| {
+        let rota = match case.random.below(8) {
+            0 => generate::small_rota(&mut case.random),
+            // Few of these, since the reference takes long over the largest.
+            1 if case.random.one_in(16) => generate::granting_rota(&mut case.random),
+            _ => generate::relay_rota(&mut case.random),
+        };
+        let (bytes, edges) = (rota.encode(), Edges::of_rota(&rota));
+        let quick = tuned::rota::Rota::read(&bytes).expect("accepted");
+        compare_staying(case, &mut tally, &bytes, &quick, &rota, &edges);
+    });
+    tally.reached([0]).also(&STAYS);
+}
+
+#[test]
+fn jumps_on_tables() {
+    let mut tally = Tally::new("tuned jumps_on_tables");
+    cases("tuned jumps_on_tables", 20_000, |case| {
+        let table = match case.random.below(8) {
+            0 => any_table(&mut case.random),
+            1 | 2 => rewriting::table(&generate::relay_rota(&mut case.random)),
+            3 | 4 => generate::relay_table(&mut case.random),
+            _ => generate::dense_table(&mut case.random),
+        };
+        let (bytes, edges) = (table.encode(), Edges::of_table(&table));
+        let quick = tuned::table::Table::read(&bytes).expect("accepted");
+        compare_staying(case, &mut tally, &bytes, &quick, &table, &edges);
+    });
+    tally.reached([0]).also(&STAYS);
+}
+
 /// Lists of calls from the fresh state and from odd ones, on bytes that may be damaged.
 #[test]
 fn calls() {
     let mut tally = Tally::new("tuned calls");
-    cases("tuned calls", 6_000, |case| {
+    cases("tuned calls", 9_000, |case| {
         if case.random.one_in(2) {
-            let rota = generate::small_rota(&mut case.random);
+            let rota = match case.random.below(2) {
+                0 => generate::small_rota(&mut case.random),
+                _ => generate::relay_rota(&mut case.random),
+            };
             let bytes = match case.random.below(8) {
                 0 => generate::damaged_rota(&mut case.random, &rota),
                 _ => rota.encode(),
@@ -221,8 +297,9 @@ fn compare_calls(case: &mut Case, tally: &mut Tally, lent: Lent, near: &dyn Poli
     let (Lent::Rota(bytes) | Lent::Table(bytes)) = lent;
     for first in [State::default(), generate::state(&mut case.random, near.users(), &edges)] {
         let mut state = first;
+        let next = case.random.pick(&[generate::call, generate::jumping_call]);
         for _ in 0..15 {
-            let call = generate::call(&mut case.random, near, &edges, state);
+            let call = next(&mut case.random, near, &edges, state);
             let mut quick = state;
             let given = tuned::service::serve(lent, &mut quick, call);
             let before = state;
