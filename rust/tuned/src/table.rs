@@ -149,6 +149,11 @@ fn is_before(row: &RowBytes, t: u32, phase: u32) -> bool {
 }
 
 #[inline]
+fn is_in_cell(row: &Row, phase: u32) -> bool {
+    u32::from(row.offset) <= phase && phase < row.cell_end()
+}
+
+#[inline]
 fn grants(entry: &Entry, user: u32, permission: u32) -> bool {
     has(u64_at(entry, 1), user) && has(u64_at(entry, 9), permission)
 }
@@ -231,37 +236,81 @@ impl Policy for Table<'_> {
     }
 
     fn staying(&self, open: u64, now: u32, m: u32) -> u64 {
-        let mut by_minute = ByMinute { table: self, spans: [Span::default(); 32] };
-        sweep::staying(self.cycle, open, now + 1, m + 1, |t, open| by_minute.held(t, open))
+        let mut spans: [Span; 32] = std::array::from_fn(|source| Span::of(self, source as u8));
+        sweep::staying(self.cycle, open, now + 1, m + 1, |t, open| {
+            self.held(&mut spans[..self.roles.into()], t, open)
+        })
     }
 }
 
-/// What a source gives at a minute and up to before `until`.
-#[derive(Clone, Copy, Default)]
-struct Span {
-    users: u64,
-    until: u32,
-    /// The end of the row that gives it.
-    end: u32,
-    /// How many rows of the source come before that minute.
+/// What a source gives at a minute, for minutes of which each is later than the one before.
+#[derive(Clone, Copy)]
+struct Span<'a> {
+    rows: &'a [RowBytes],
+    /// How many of the rows come before the minute.
     after: usize,
+    users: u64,
+    /// It gives them to before this minute.
+    until: u32,
+    /// The end of the row that gives them.
+    end: u32,
 }
 
-/// A table with what its sources give at a minute, for many minutes, each later than the one
-/// before.
-struct ByMinute<'a> {
-    table: &'a Table<'a>,
-    spans: [Span; 32],
+impl<'a> Span<'a> {
+    /// Nothing, and not even for the first minute.
+    fn of(table: &Table<'a>, source: u8) -> Span<'a> {
+        let rows = table.rows_of(source);
+        // Without a row it gives nothing ever.
+        let until = if rows.is_empty() { END } else { 0 };
+        Span { rows, after: 0, users: 0, until, end: END }
+    }
+
+    /// Goes on to `t`, which is not before `until`. Mostly the next row covers it, and then no
+    /// other row of the source does.
+    #[inline]
+    fn go_on(&mut self, table: &Table, t: u32, phase: u32) {
+        match self.rows.get(self.after).map(decode) {
+            Some(row) if row.begin <= t && t < row.end && is_in_cell(&row, phase) => {
+                self.after += 1;
+                self.give(table, &row, t, phase);
+            }
+            _ => self.search(table, t, phase),
+        }
+    }
+
+    #[inline]
+    fn give(&mut self, table: &Table, row: &Row, t: u32, phase: u32) {
+        self.users = u64_at(&table.entries[row.derived as usize], 1);
+        self.until = row.end.min(t + row.cell_end() - phase);
+        self.end = row.end;
+    }
+
+    fn search(&mut self, table: &Table, t: u32, phase: u32) {
+        let (rows, near) = (self.rows, self.after);
+        self.after = sweep::partition_near(rows, near, |row| is_before(row, t, phase));
+        // The last one of the era of `t`, if there is one.
+        let last = rows[..self.after].last().map(decode).filter(|row| t < row.end);
+        if let Some(row) = last.filter(|row| phase < row.cell_end()) {
+            return self.give(table, &row, t, phase);
+        }
+        let turn = t + (table.cycle - phase);
+        self.users = 0;
+        self.until = match (last, rows.get(self.after).map(decode)) {
+            (_, Some(next)) if next.begin <= t => next.end.min(t + u32::from(next.offset) - phase),
+            (Some(last), _) => last.end.min(turn),
+            (None, next) => next.map_or(END, |next| next.begin),
+        };
+    }
 }
 
-impl ByMinute<'_> {
+impl Table<'_> {
     /// Who of `open` holds a permission at `t`. Once everyone does, no further source matters.
-    fn held(&mut self, t: u32, open: u64) -> sweep::Held {
-        let phase = t % self.table.cycle;
+    fn held(&self, spans: &mut [Span], t: u32, open: u64) -> sweep::Held {
+        let phase = t % self.cycle;
         let (mut missing, mut until, mut era) = (open, END, END);
-        for (source, span) in (0..self.table.roles).zip(&mut self.spans) {
+        for span in spans {
             if span.until <= t {
-                *span = self.table.span(source, span.after, t, phase);
+                span.go_on(self, t, phase);
             }
             if span.users & missing != 0 {
                 missing &= !span.users;
@@ -273,28 +322,5 @@ impl ByMinute<'_> {
             }
         }
         sweep::Held { users: open & !missing, until, era }
-    }
-}
-
-impl Table<'_> {
-    /// What a source gives at `t`; `near` rows or so come before it.
-    fn span(&self, source: u8, near: usize, t: u32, phase: u32) -> Span {
-        let rows = self.rows_of(source);
-        let after = sweep::partition_near(rows, near, |row| is_before(row, t, phase));
-        // In the era of `t`, if the source has one there, and in this turn of the cycle.
-        let last = rows[..after].last().map(decode).filter(|row| t < row.end);
-        if let Some(row) = last.filter(|row| phase < row.cell_end()) {
-            let users = u64_at(&self.entries[row.derived as usize], 1);
-            let until = row.end.min(t + row.cell_end() - phase);
-            return Span { users, until, end: row.end, after };
-        }
-        let turn = t + (self.cycle - phase);
-        let next = rows.get(after).map(decode);
-        let until = match (last, next) {
-            (_, Some(next)) if next.begin <= t => next.end.min(t + u32::from(next.offset) - phase),
-            (Some(last), _) => last.end.min(turn),
-            (None, next) => next.map_or(END, |next| next.begin),
-        };
-        Span { users: 0, until, end: END, after }
     }
 }

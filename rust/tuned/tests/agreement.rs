@@ -4,12 +4,12 @@
 use cases::case::{Case, Tally, cases};
 use cases::generate::{self, Sets};
 use cases::random::Random;
-use cases::{data, worst};
+use cases::{data, worst, worst::jumps};
 use reference::edges::Edges;
 use reference::policy::{Policy, question};
 use reference::rota::Rota;
 use reference::service::{Lent, State, serve};
-use reference::table::Table;
+use reference::table::{Row, Table};
 use reference::{END, Refusal, calendar, rewriting, set};
 
 /// What was read, asked a few questions at such minutes and asked who holds anything.
@@ -264,6 +264,57 @@ fn jumps_on_tables() {
         compare_staying(case, &mut tally, &bytes, &quick, &table, &edges);
     });
     tally.reached([0]).also(&STAYS);
+}
+
+/// Through all 400 years everyone stays, on the rota and on its table. The reference, which takes
+/// long, sees the last 50 of them.
+#[test]
+fn worst_rotas_to_jump_over() {
+    let case = Case::new("tuned worst_rotas_to_jump_over", 0);
+    for (name, rota) in jumps::rotas() {
+        let bytes = rota.encode();
+        let everyone = set::below(rota.users());
+        case.same(rota.staying(everyone, END / 8 * 7, END - 1), everyone, &[], name);
+        let quick = tuned::rota::Rota::read(&bytes).expect("accepted");
+        case.same(quick.staying(everyone, 0, END - 1), everyone, &[], name);
+        let table = rewriting::table(&rota).encode();
+        let quick = tuned::table::Table::read(&table).expect("accepted");
+        case.same(quick.staying(everyone, 0, END - 1), everyone, &[], (name, "its table"));
+    }
+}
+
+/// Everyone stays for a week, and where a row is left out, those leave who have it.
+#[test]
+fn worst_tables_to_jump_over() {
+    let mut case = Case::new("tuned worst_tables_to_jump_over", 0);
+    for (name, mut table) in jumps::tables() {
+        let bytes = table.encode();
+        assert!(bytes.len() <= 32_000_000, "{name} is too long");
+        let quick = tuned::table::Table::read(&bytes).expect("accepted");
+        case.same(quick.staying(u64::MAX, 0, 10_080), u64::MAX, &[], name);
+        let is_of_week = |row: &Row| row.end == END && (1..10_080).contains(&row.offset);
+        let rows: Vec<usize> =
+            (0..table.rows.len()).filter(|&i| is_of_week(&table.rows[i])).collect();
+        let row = table.rows.remove(case.random.pick(&rows));
+        let bytes = table.encode();
+        let quick = tuned::table::Table::read(&bytes).expect("accepted");
+        let left = !table.derived[row.derived as usize].users;
+        case.same(quick.staying(u64::MAX, 0, 10_080), left, &[], (name, row));
+    }
+    // One that the reference can go through, with a row left out here and there.
+    cases("tuned worst_tables_to_jump_over", 40, |case| {
+        let entries = case.random.pick(&[jumps::Entries::OneEach, jumps::Entries::Scattered]);
+        let cycle = case.random.between(1, 30) as u16;
+        let mut table = jumps::every_minute(cycle, case.random.one_in(2), entries, 50 * 30);
+        let most = case.random.pick(&[0, 100, 1_000]);
+        table.rows.retain(|_| most == 0 || !case.random.one_in(most));
+        let bytes = table.encode();
+        let quick = tuned::table::Table::read(&bytes).expect("accepted");
+        for m in [1, u32::from(cycle), 700, 1_499, 1_500, 1_600] {
+            let expected = table.staying(u64::MAX, 0, m);
+            case.same(quick.staying(u64::MAX, 0, m), expected, &bytes, m);
+        }
+    });
 }
 
 /// Lists of calls from the fresh state and from odd ones, on bytes that may be damaged.
