@@ -278,10 +278,19 @@ impl<'a> Span<'a> {
         }
     }
 
+    /// The row before `after` covers `t`. Rows of the same derived role that touch go on with it.
     #[inline]
     fn give(&mut self, table: &Table, row: &Row, t: u32, phase: u32) {
+        let mut cell_end = row.cell_end();
+        while let Some(next) = self.rows.get(self.after).map(decode)
+            && (next.derived, next.begin) == (row.derived, row.begin)
+            && u32::from(next.offset) == cell_end
+        {
+            cell_end = next.cell_end();
+            self.after += 1;
+        }
         self.users = u64_at(&table.entries[row.derived as usize], 1);
-        self.until = row.end.min(t + row.cell_end() - phase);
+        self.until = row.end.min(t + cell_end - phase);
         self.end = row.end;
     }
 

@@ -303,7 +303,7 @@ fn worst_tables_to_jump_over() {
     }
     // One that the reference can go through, with a row left out here and there.
     cases("tuned worst_tables_to_jump_over", 40, |case| {
-        let entries = case.random.pick(&[jumps::Entries::OneEach, jumps::Entries::Scattered]);
+        let entries = case.random.pick(&[jumps::Entries::Few, jumps::Entries::Scattered]);
         let cycle = case.random.between(1, 30) as u16;
         let mut table = jumps::every_minute(cycle, case.random.one_in(2), entries, 50 * 30);
         let most = case.random.pick(&[0, 100, 1_000]);

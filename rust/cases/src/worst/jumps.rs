@@ -6,7 +6,7 @@ use reference::hours::{Hours, HoursRef, Pair};
 use reference::rota::{Rota, Row};
 use reference::table::{self, DerivedRole, Table};
 
-use super::{Cut, most_sets};
+use super::{Cut, most_sets, reference};
 use crate::generate::{LIMITS, Sets, fine_rota};
 use crate::random::Random;
 
@@ -118,6 +118,55 @@ pub fn all_stay() -> Cut {
     cut
 }
 
+/// A neighbour of a rota: a few rows have other hours, another role or number, records change dates,
+/// or a pair begins or ends elsewhere. It is accepted like the rota.
+pub fn changed(rota: &Rota, random: &mut Random) -> Rota {
+    let mut rota = rota.clone();
+    for _ in 0..random.pick(&[1, 1, 2, 4, 16]) {
+        change(&mut rota, random);
+    }
+    rota
+}
+
+fn change(rota: &mut Rota, random: &mut Random) {
+    let (hours, roles) = (rota.hours.len() as u32, rota.roles.len() as u32);
+    let record = random.below(hours) as usize;
+    let cycle = rota.cycle;
+    match random.below(8) {
+        0 => {
+            let other = random.below(hours) as usize;
+            let (begin, end) = (rota.hours[other].begin, rota.hours[other].end);
+            let one = &mut rota.hours[record];
+            let (begin, end) = random.pick(&[(begin, one.end), (one.begin, end), (begin, end)]);
+            if begin < end {
+                (one.begin, one.end) = (begin, end);
+            }
+        }
+        1 | 2 => {
+            // Between its neighbours, which it does not touch.
+            let pairs = &mut rota.hours[record].pairs;
+            let i = random.below(pairs.len() as u32) as usize;
+            let low = if i > 0 { pairs[i - 1].end() + 1 } else { 0 };
+            let high = pairs.get(i + 1).map_or(cycle.into(), |next| u32::from(next.offset) - 1);
+            let (from, to) = (u32::from(pairs[i].offset), pairs[i].end());
+            let (from, to) = match random.below(2) {
+                0 => (random.between(low, to - 1), to),
+                _ => (from, random.between(from + 1, high)),
+            };
+            pairs[i] = Pair { offset: from as u16, length: (to - from) as u16 };
+        }
+        kind => {
+            let rows = if kind % 2 == 0 { &mut rota.user_rows } else { &mut rota.permission_rows };
+            let row = random.below(rows.len() as u32) as usize;
+            match random.below(6) {
+                0 => rows[row].role = random.below(roles) as u8,
+                1 => rows[row].number = random.below(LIMITS.users) as u8,
+                _ => rows[row].hours = reference(random, hours),
+            }
+        }
+    }
+}
+
 /// All of these rotas by name.
 pub fn rotas() -> Vec<(&'static str, Rota)> {
     vec![
@@ -132,8 +181,8 @@ pub fn rotas() -> Vec<(&'static str, Rota)> {
 /// Where the rows of a table find their derived roles.
 #[derive(Clone, Copy, Debug, PartialEq, Eq)]
 pub enum Entries {
-    /// Each role has one.
-    OneEach,
+    /// Each role has two, which take turns, so that no two rows that touch have the same.
+    Few,
     /// Each row has one of its own, in no order.
     Scattered,
 }
@@ -161,7 +210,7 @@ pub fn every_minute(cycle: u16, by_turns: bool, entries: Entries, end: u32) -> T
     let roles = if by_turns { LIMITS.roles - 1 } else { LIMITS.roles };
     for role in 1..roles {
         let first = derived.len() as u32;
-        let count = if entries == Entries::OneEach { 1 } else { length };
+        let count = if entries == Entries::Few { 2 } else { length };
         derived.extend((0..count).map(|_| entry(role)));
         let step = if by_turns { 2 } else { 1 };
         rows.extend((role as u16 % step..cycle).step_by(step.into()).map(|offset| table::Row {
@@ -179,10 +228,10 @@ pub fn every_minute(cycle: u16, by_turns: bool, entries: Entries, end: u32) -> T
 /// Such tables within 32 MB, by name.
 pub fn tables() -> Vec<(&'static str, Table)> {
     vec![
-        ("every minute, short cycle", every_minute(120, false, Entries::OneEach, END)),
-        ("every minute", every_minute(LIMITS.cycle, false, Entries::OneEach, END)),
+        ("every minute, short cycle", every_minute(120, false, Entries::Few, END)),
+        ("every minute", every_minute(LIMITS.cycle, false, Entries::Few, END)),
         ("every minute, scattered", every_minute(31_000, false, Entries::Scattered, END)),
-        ("by turns", every_minute(LIMITS.cycle, true, Entries::OneEach, END)),
+        ("by turns", every_minute(LIMITS.cycle, true, Entries::Few, END)),
         ("by turns, scattered", every_minute(LIMITS.cycle, true, Entries::Scattered, END)),
     ]
 }
