@@ -20,6 +20,12 @@ fn holds(held: Held, reference: u8) -> bool {
     held >> (reference & 63) & 1 != 0
 }
 
+/// The hours that a byte refers to, alone.
+#[inline]
+fn only(reference: u8) -> Held {
+    1 << (reference & 63)
+}
+
 /// A user or a permission, a role, an hours reference.
 pub type Row = [u8; 3];
 
@@ -236,16 +242,17 @@ struct ByMinute<'a> {
     /// The hours that hold, and for each record to before which minute that is known.
     held: Held,
     known: [u32; 32],
-    /// For each role its own hours, and those of its permissions.
-    roles: [[Held; 2]; 32],
-    /// For each user the roles that it ever has, and its hours in each of them.
-    user_roles: [u32; 64],
-    user_hours: [[Held; 32]; 64],
+    /// For each role its hours reference, and the hours of its permissions.
+    roles: &'a [u8],
+    permitted: [Held; 32],
+    /// Role and hours of each user's rows, user by user; those for always come first.
+    user_rows: [[u8; 2]; 512],
+    /// Where the rows of each user begin, and where the last ones end.
+    starts: [u16; 65],
 }
 
 impl<'a> ByMinute<'a> {
     fn new(rota: &Rota<'a>) -> ByMinute<'a> {
-        let bit = |reference: u8| 1 << (reference & 63);
         let mut records = rota.records();
         let none = || Record { begin: 0, end: 0, pairs: &[] };
         let mut all = ByMinute {
@@ -254,19 +261,28 @@ impl<'a> ByMinute<'a> {
             count: rota.hours.into(),
             held: ALWAYS,
             known: [0; 32],
-            roles: [[0; 2]; 32],
-            user_roles: [0; 64],
-            user_hours: [[0; 32]; 64],
+            roles: rota.roles,
+            permitted: [0; 32],
+            user_rows: [[0; 2]; 512],
+            starts: [0; 65],
         };
-        for (role, &hours) in all.roles.iter_mut().zip(rota.roles) {
-            role[0] = bit(hours);
-        }
         for &[_, role, hours] in rota.permission_rows {
-            all.roles[usize::from(role)][1] |= bit(hours);
+            all.permitted[usize::from(role)] |= only(hours);
         }
-        for &[user, role, hours] in rota.user_rows {
-            all.user_roles[usize::from(user)] |= 1 << role;
-            all.user_hours[usize::from(user)][usize::from(role)] |= bit(hours);
+        for &[user, ..] in rota.user_rows {
+            all.starts[usize::from(user) + 1] += 1;
+        }
+        for user in 0..64 {
+            all.starts[user + 1] += all.starts[user];
+        }
+        let mut places = all.starts;
+        for is_always in [true, false] {
+            let rows = rota.user_rows.iter().filter(|row| (row[2] == 255) == is_always);
+            for &[user, role, hours] in rows {
+                let place = &mut places[usize::from(user)];
+                all.user_rows[usize::from(*place)] = [role, hours];
+                *place += 1;
+            }
         }
         all
     }
@@ -276,20 +292,21 @@ impl<'a> ByMinute<'a> {
         self.look_up(t);
         // For each role that grants something, records by which it does.
         let (mut granting, mut by) = (0u32, [0; 32]);
-        for (role, hours) in self.roles.iter().enumerate() {
-            let [own, permitted] = hours.map(|hours| hours & self.held);
-            if own != 0 && permitted != 0 {
+        for (role, (&hours, permitted)) in self.roles.iter().zip(self.permitted).enumerate() {
+            let permitted = permitted & self.held;
+            if permitted != 0 && holds(self.held, hours) {
                 granting |= 1 << role;
-                by[role] = one_of(own) | one_of(permitted);
+                by[role] = one_of(only(hours)) | one_of(permitted);
             }
         }
         let (mut users, mut rests_on) = (0, 0);
         for user in members(open) {
-            let hours = &self.user_hours[user];
-            let mut roles = members((self.user_roles[user] & granting).into());
-            if let Some(role) = roles.find(|&role| hours[role] & self.held != 0) {
+            let [first, past] = [self.starts[user], self.starts[user + 1]].map(usize::from);
+            let gives =
+                |&&[role, hours]: &&[u8; 2]| granting >> role & 1 != 0 && holds(self.held, hours);
+            if let Some(&[role, hours]) = self.user_rows[first..past].iter().find(gives) {
                 users |= 1 << user;
-                rests_on |= by[role] | one_of(hours[role] & self.held);
+                rests_on |= by[usize::from(role)] | one_of(only(hours));
             }
         }
         let (mut until, mut era) = (END, END);
