@@ -54,11 +54,14 @@ fn one_cycle(
     }
 }
 
-// Of `among`, those who hold a permission at each minute from a to before b.
+// Of `among`, those who hold a permission at each minute from a to before b. One minute is what an advance mostly passes, and needs no sweep.
 pub fn steady(s: &[u8], source: Source, a: u32, b: u32, among: u64) -> u64
     requires { ⌜ Lends (kindOf source) (now s) source × (a ≤ b) × (b ≤ E) × (among < 2 ^ usersOf source) ⌝ }
     ensures { λ r. ⌜ r ≡ steadyOver (policyAs (kindOf source) (now (s .entry))) among a b ⌝ }
 {
+    if b - a == 1 {
+        return lent::held_once(s, source, a, among);
+    }
     let mut places = [18446744073709551615; 32];
     let mut stays = among;
     let mut x = a;
