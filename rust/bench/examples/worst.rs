@@ -131,7 +131,9 @@ impl Search {
         }
     }
 
-    /// Climbs from a rota for so long. A time that seems longer is taken again, for both.
+    /// Climbs from a rota for so long. A time that seems longer is taken again, for both in turn, so
+    /// that what else the machine does falls on both. It has to be longer by more than two such times
+    /// differ by chance, or else the search drifts downhill.
     fn climb(&mut self, start: Place, random: &mut Random, time: Duration) -> (Place, f64) {
         let (mut best, begun) = (start, Instant::now());
         let mut longest = self.seconds(&best.bytes(), 3);
@@ -141,10 +143,15 @@ impl Search {
             if self.seconds(&bytes, 1) <= longest {
                 continue;
             }
-            longest = longest.min(self.seconds(&best.bytes(), 3));
-            let again = self.seconds(&bytes, 3);
-            if again > longest {
-                (best, longest) = (changed, again);
+            let (mut before, mut after) = (f64::MAX, f64::MAX);
+            for _ in 0..10 {
+                before = before.min(self.seconds(&best.bytes(), 1));
+                after = after.min(self.seconds(&bytes, 1));
+            }
+            if after > 1.02 * before {
+                (best, longest) = (changed, after);
+            } else {
+                longest = longest.min(before);
             }
         }
         (best, longest)

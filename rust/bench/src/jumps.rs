@@ -69,12 +69,25 @@ pub fn print_worst_rotas() {
     }
 }
 
-/// Over a week, or over 400 years.
-pub fn print_worst_tables(is_long: bool) {
-    let (span, m) = if is_long { ("400 years", END - 1) } else { ("a week", WEEK) };
+/// All of them over a week.
+pub fn print_worst_tables() {
+    print_tables("a week", jumps::tables(), WEEK, false);
+}
+
+/// Over 400 years those that are named, or else the last, which is the worst.
+pub fn print_worst_tables_of_years(named: &[String]) {
+    let mut tables = jumps::tables();
+    match named {
+        [] => _ = tables.drain(..tables.len() - 1),
+        _ => tables.retain(|(name, _)| named.iter().any(|named| named == name)),
+    }
+    print_tables("400 years", tables, END - 1, true);
+}
+
+fn print_tables(span: &str, tables: Vec<(&str, reference::table::Table)>, m: u32, is_long: bool) {
     println!("\n| {span}, everyone stays | bytes | rows | table advance | tuned | readings |");
     println!("|---|---|---|---|---|---|");
-    for (name, table) in jumps::tables() {
+    for (name, table) in tables {
         let (rows, table) = (table.rows.len(), table.encode());
         let (advance, read) = (advance(Lent::Table(&table), m, is_long), read(&table));
         println!(

@@ -276,10 +276,10 @@ fn main() {
     report.print_table(&inputs);
     if is_chosen("jumps") {
         jumps::print_worst_rotas();
-        jumps::print_worst_tables(false);
+        jumps::print_worst_tables();
     }
-    // It takes minutes, so only who asks for it gets it.
-    if chosen.iter().any(|group| group == "years") {
-        jumps::print_worst_tables(true);
+    // It takes minutes, so only who asks for it gets it. After it come names of tables.
+    if let Some(years) = chosen.iter().position(|group| group == "years") {
+        jumps::print_worst_tables_of_years(&chosen[years + 1..]);
     }
 }
