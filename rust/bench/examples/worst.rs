@@ -131,30 +131,39 @@ impl Search {
         }
     }
 
-    /// Climbs from a rota for so long. A time that seems longer is taken again, for both in turn, so
-    /// that what else the machine does falls on both. It has to be longer by more than two such times
-    /// differ by chance, or else the search drifts downhill.
+    /// Both timed in turn, so that what else the machine does falls on both.
+    fn in_turn(&mut self, one: &Place, other: &Place) -> (f64, f64) {
+        let bytes = [one.bytes(), other.bytes()];
+        let mut best = [f64::MAX; 2];
+        for _ in 0..10 {
+            for (best, bytes) in best.iter_mut().zip(&bytes) {
+                *best = best.min(self.seconds(bytes, 1));
+            }
+        }
+        (best[0], best[1])
+    }
+
+    /// Climbs from a rota for so long. What seems to take longer is timed again beside what it was
+    /// changed from, and has to take longer by more than times mostly differ by chance. On a busy
+    /// machine some changes pass that take less, so what was climbed to is timed beside the start at
+    /// the end, and the longer of the two is given.
     fn climb(&mut self, start: Place, random: &mut Random, time: Duration) -> (Place, f64) {
-        let (mut best, begun) = (start, Instant::now());
+        let (mut best, begun) = (start.clone(), Instant::now());
         let mut longest = self.seconds(&best.bytes(), 3);
         while begun.elapsed() < time {
             let changed = best.changed(random);
-            let bytes = changed.bytes();
-            if self.seconds(&bytes, 1) <= longest {
+            if self.seconds(&changed.bytes(), 1) <= longest {
                 continue;
             }
-            let (mut before, mut after) = (f64::MAX, f64::MAX);
-            for _ in 0..10 {
-                before = before.min(self.seconds(&best.bytes(), 1));
-                after = after.min(self.seconds(&bytes, 1));
-            }
+            let (before, after) = self.in_turn(&best, &changed);
             if after > 1.02 * before {
                 (best, longest) = (changed, after);
             } else {
                 longest = longest.min(before);
             }
         }
-        (best, longest)
+        let (first, last) = self.in_turn(&start, &best);
+        if last > first { (best, last) } else { (start, first) }
     }
 }
 
