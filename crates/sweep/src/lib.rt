@@ -59,21 +59,19 @@ pub fn steady(s: &[u8], source: Source, a: u32, b: u32, among: u64) -> u64
     requires { ⌜ Lends (kindOf source) (now s) source × (a ≤ b) × (b ≤ E) × (among < 2 ^ usersOf source) ⌝ }
     ensures { λ r. ⌜ r ≡ steadyOver (policyAs (kindOf source) (now (s .entry))) among a b ⌝ }
 {
+    if a == b {
+        return among;
+    }
     if b - a == 1 {
         return lent::held_once(s, source, a, among);
     }
     let mut places = [18446744073709551615; 32];
-    let mut stays = among;
-    let mut x = a;
-    let mut reach = lent::cycle(source);
-    while x < b {
-        if stays == 0 {
+    let mut t = one_cycle(s, source, &mut places, a, b, among, lent::cycle(source));
+    while t.next < b {
+        if t.set == 0 {
             return 0;
         }
-        let t = one_cycle(s, source, &mut places, x, b, stays, reach);
-        stays = t.set;
-        x = t.next;
-        reach = t.reach;
+        t = one_cycle(s, source, &mut places, t.next, b, t.set, t.reach);
     }
-    stays
+    t.set
 }
