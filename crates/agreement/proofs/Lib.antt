@@ -3,3 +3,4 @@ pub mod Agreement
 pub mod Pinned
 pub mod Worked
 pub mod NextUseAgreed
+pub mod Sleeping

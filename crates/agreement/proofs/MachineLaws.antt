@@ -1,10 +1,11 @@
 -- The machine over two policies with the same counts that agree on every question below them: the same steps, and so the same runs.
 -- Assumes nothing.
-use Prim.Native.Nat.{ℕ, zero, suc, _<_}
+use Prim.Native.Nat.{ℕ, zero, suc, _+_, _<_, _≤_}
 use mathlib.Core.Path.{_≡_, refl, ap, _∙_}
-use mathlib.Core.Bool.{Bool, true, false, _&&_}
+use mathlib.Core.Bool.{Bool, true, false, not, _&&_}
 use mathlib.Core.Option.{Option}
 use mathlib.Core.List.{List, [], _∷_}
+use native.Mathlib.Omega.{arith}
 use lib.Dec.{leb}
 use borrow.Author.Tests.{leb-false}
 use Rattle.ground.specs.Judgement.{refuse, _orElse_}
@@ -16,6 +17,7 @@ use Rattle.bitset.specs.Sets.{has, difference, count}
 use Rattle.bitset.proofs.SetLaws.{setOf-same}
 use Rattle.minutes.specs.Minutes.{E}
 use Rattle.policy.specs.Policy.{Policy, isYes, holdsAny}
+use Rattle.policy.specs.Steady.{lapses, steadyOver}
 use Rattle.machine.specs.Machine.{Call, advance, «open», close, ask, closed, answered, Step, state, staying, stateJudged, advanceJudged, openJudged, askJudged, callJudged, given-by, left-by, settled, stepBy, machineStep, serviceStep, run}
 use Rattle.machine.specs.declared.Service.{Service}
 
@@ -43,9 +45,13 @@ module _ (n m : ℕ) (f g : ℕ → ℕ → ℕ → Option ℕ) (same : (u p t :
   unfolding holdsAny
   same-holds t u hu ht = any-same m _ _ (λ p hp. ap isYes (same u p t hu hp ht))
 
-  same-staying : (o t : ℕ) → t < E → staying K o t ≡ staying L o t
-  unfolding staying
-  same-staying o t ht = setOf-same n _ _ (λ u hu. ap (λ (b : Bool). has o u && b) (same-holds t u hu ht))
+  same-lapses : (a b u : ℕ) → u < n → b ≤ E → lapses K a b u ≡ lapses L a b u
+  unfolding lapses
+  same-lapses a b u hu hb = any-same b _ _ (λ v hv. ap (λ (x : Bool). leb a v && not x) (same-holds v u hu (omega arith)))
+
+  same-staying : (o a t : ℕ) → t < E → staying K o a t ≡ staying L o a t
+  unfolding staying steadyOver
+  same-staying o a t ht = setOf-same n _ _ (λ u hu. ap (λ (b : Bool). has o u && not b) (same-lapses (a + 1) (t + 1) u hu (omega arith)))
 
   -- the refusals
   same-judged : (σ : Service) (c : Call) → σ .now < E → callJudged K σ c ≡ callJudged L σ c
@@ -64,7 +70,7 @@ module _ (n m : ℕ) (f g : ℕ → ℕ → ℕ → Option ℕ) (same : (u p t :
   unfolding callJudged advanceJudged askJudged given-by
   same-given σ (advance t) h z =
       let ht : t < E = leb-false E t (refuse-no 32 _ (orElse-zero _ _ z .0)) in
-      ap (λ (o : ℕ). closed (count (difference (σ .«open») o))) (same-staying (σ .«open») t ht)
+      ap (λ (o : ℕ). closed (count (difference (σ .«open») o))) (same-staying (σ .«open») (σ .now) t ht)
   same-given σ («open» u) h z = refl
   same-given σ (close u) h z = refl
   same-given σ (ask u p) h z =
@@ -76,7 +82,7 @@ module _ (n m : ℕ) (f g : ℕ → ℕ → ℕ → Option ℕ) (same : (u p t :
   unfolding callJudged advanceJudged left-by
   same-left σ (advance t) z =
       let ht : t < E = leb-false E t (refuse-no 32 _ (orElse-zero _ _ z .0)) in
-      ap (λ (o : ℕ). state t o) (same-staying (σ .«open») t ht)
+      ap (λ (o : ℕ). state t o) (same-staying (σ .«open») (σ .now) t ht)
   same-left σ («open» u) z = refl
   same-left σ (close u) z = refl
   same-left σ (ask u p) z = refl

@@ -1,4 +1,4 @@
--- What document 01 marks for proof under "Worked minutes", as one statement; and the table of its small rota S.
+-- What document 01 marks for proof under "Worked minutes", and document 02 of S in item 3, as one statement; and the table of its small rota S.
 -- Assumes nothing.
 use Prim.Native.Nat.{ℕ, _<_}
 use mathlib.Core.Path.{_≡_, refl, ap, _∙_}
@@ -18,6 +18,7 @@ use Rattle.hours.specs.Hours.{holds, refHolds, refOf, dangling}
 use Rattle.hours.specs.HoursBytes.{recordAt, pairsBefore, hoursFrom}
 use Rattle.hours.specs.HoursRefusals.{earliest, pairJudged, hoursJudged, recordJudged}
 use Rattle.policy.specs.Policy.{holdsAny}
+use Rattle.policy.specs.Steady.{lapses, steadyOver}
 use Rattle.rota.specs.Rota.{Rota, enabled, assigned, hasUser, hasPermission, through, answer}
 use Rattle.rota.specs.RotaBytes.{headerLength, rotaOf}
 use Rattle.rota.specs.RotaRefusals.{countsOver, headerJudged, roleJudged, rowBad, rowJudged, rotaJudged}
@@ -40,7 +41,7 @@ use Rattle.agreement.specs.Worked.{Worked}
 
 -- opens every definition that an example computes through
 unfoldable opened : Unit {0}
-unfolding E inPhase any anyBelow firstOf lowestBelow countBelow listOf u16At u32At holds refHolds refOf dangling recordAt pairsBefore hoursFrom earliest pairJudged hoursJudged recordJudged refuse _orElse_ inTurn enabled assigned hasUser hasPermission through answer headerLength rotaOf countsOver headerJudged roleJudged rowBad rowJudged rotaJudged holdsAny has setOf insert remove difference count insertCut sortInto gapsFrom gaps addNew addAll placeOf hoursCuts pairCuts pairsCuts eraCuts cellCuts fieldsOf fields firstIn maskOf slotOf assignedIn usersIn permissionsIn keptIn nextEntries markOf derivedFrom marksFrom rowsMarked staying stateJudged advanceJudged openJudged callJudged given-by left-by settled stepBy machineStep
+unfolding E inPhase any anyBelow firstOf lowestBelow countBelow listOf u16At u32At holds refHolds refOf dangling recordAt pairsBefore hoursFrom earliest pairJudged hoursJudged recordJudged refuse _orElse_ inTurn enabled assigned hasUser hasPermission through answer headerLength rotaOf countsOver headerJudged roleJudged rowBad rowJudged rotaJudged holdsAny has setOf insert remove difference count insertCut sortInto gapsFrom gaps addNew addAll placeOf hoursCuts pairCuts pairsCuts eraCuts cellCuts fieldsOf fields firstIn maskOf slotOf assignedIn usersIn permissionsIn keptIn nextEntries markOf derivedFrom marksFrom rowsMarked lapses steadyOver staying stateJudged advanceJudged openJudged callJudged given-by left-by settled stepBy machineStep
 opened = tt
 
 abbrev ρ : Rota
@@ -95,6 +96,8 @@ worked =
       opens-1 = refl;
       opens-0 = refl;
       advances-4 = refl;
+      opens-0-at-1 = refl;
+      advances-11 = refl;
       era-3-to-5 = (worked-field .1, worked-field .2);
       leap-day-is = leap-day;
       leap-day-sunday = ap (λ (d : Date). d .weekday) leap-day-date;

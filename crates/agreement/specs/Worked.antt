@@ -1,4 +1,4 @@
--- What document 01 marks for proof under "Worked minutes", as one statement.
+-- What document 01 marks for proof under "Worked minutes", and document 02 of S in item 3, as one statement.
 use Prim.Native.Nat.{ℕ}
 use mathlib.Core.Path.{_≡_}
 use mathlib.Core.Option.{none}
@@ -23,6 +23,9 @@ pub record Worked : Type 0 where
   pub opens-1 : on-small fresh («open» 1) .outcome ≡ refused 43
   pub opens-0 : on-small fresh («open» 0) ≡ record { outcome = given done; after = state 0 1 }
   pub advances-4 : on-small (state 0 1) (advance 4) ≡ record { outcome = given (closed 1); after = state 4 0 }
+  -- open 0 at minute 1, then advance 11 gives count 1 (document 02, item 3): at minute 4 volunteer 0 holds no right
+  pub opens-0-at-1 : on-small (state 1 0) («open» 0) ≡ record { outcome = given done; after = state 1 1 }
+  pub advances-11 : on-small (state 1 1) (advance 11) ≡ record { outcome = given (closed 1); after = state 11 0 }
   -- C 10, hours (3, 5, pair (0, 10)) and (0, E, pair (6, 2)): era 3 to 5 keeps no field with cell 6 to 8
   pub era-3-to-5 : (keptAs example 0 field ≡ none) × ((k : Kept) → List·Memᴰ k (kept example) → k .field ≡ field → ⊥)
   -- 29 February 2004, 00:00, is minute 1,661,760, a Sunday; the last minute is a Sunday

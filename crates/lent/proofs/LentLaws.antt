@@ -3,8 +3,9 @@
 --     stopped, reached                                       what `lend` answers, told to its caller
 --     as-rota, as-table                                      what is lent, in the words of the rota or of the table
 --     holders-as, answer-as                                  what the rota or the table answers is what the lent bytes answer
+--     held-rota, held-table                                  who holds a permission by it, and how far
 --     own, holders-are, answer-is, users-are,
---     permissions-are, few                                   what is lent, in the words of the kind that it was lent as
+--     permissions-are, few, cycle-fine, steady-are           what is lent, in the words of the kind that it was lent as
 -- Assumes nothing.
 use Prim.Native.Nat.{ℕ, _<_, _≤_}
 use mathlib.Core.Path.{_≡_, refl, sym, ap, _∙_, subst}
@@ -14,7 +15,10 @@ use native.Mathlib.Omega.{arith}
 use Rattle.ground.specs.Outcome.{Outcome, refused, given}
 use Rattle.ground.proofs.OutcomeLaws.{outcome-refused, outcome-given, refused-by, given-by}
 use Rattle.policy.specs.Policy.{holdersAt}
-use Rattle.rota.specs.RotaBytes.{rotaOf}
+use Rattle.policy.specs.Held.{HeldAmong}
+use Rattle.policy.specs.Steady.{steadyOver}
+use Rattle.rota.specs.Rota as rota
+use Rattle.rota.specs.RotaBytes.{cycleOf as rotaCycle, rotaOf}
 use Rattle.rota.specs.Inside.{layoutGiven, layoutOutcome, layoutOf, Located}
 use Rattle.rota.specs.Answers.{countsOf as rotaCounts}
 use Rattle.rota.specs.declared.Layout.{Layout}
@@ -22,16 +26,19 @@ use Rattle.rota.specs.declared.LayoutAnswer.{LayoutAnswer}
 use Rattle.rota.specs.declared.LayoutAnswer.the-variants as layout
 use Rattle.rota.proofs.RotaFine.{rota-fine}
 use Rattle.rota.proofs.ReadLaws.{located, not-located}
-use Rattle.table.specs.TableBytes.{tableOf}
+use Rattle.table.specs.Table as table
+use Rattle.table.specs.TableBytes.{cycleOf as tableCycle, tableOf}
 use Rattle.table.specs.Answers.{tableGiven, readOutcome, countsOf}
 use Rattle.table.specs.Inside.{Opened}
 use Rattle.table.specs.declared.Counts.{Counts}
 use Rattle.table.specs.declared.TableAnswer.{TableAnswer}
-use Rattle.table.specs.declared.TableAnswer.the-variants as table
+use Rattle.table.specs.declared.TableAnswer.the-variants as told
+use Rattle.table.proofs.HeaderLaws.{counts-are}
 use Rattle.table.proofs.FineLaws.{table-fine}
+use Rattle.rota_times.proofs.HeldLaws.{cycle-is as rota-cycle}
 use Rattle.table_reader.proofs.ReadLaws.{closed, opened}
 use Rattle.lent.specs.Lent.{judgedAs, policyAs}
-use Rattle.lent.specs.Inside.{sourceAs, lendingGiven, lendOutcome, Lends, kindOf, usersOf, permissionsOf}
+use Rattle.lent.specs.Inside.{sourceAs, lendingGiven, lendOutcome, Lends, kindOf, usersOf, permissionsOf, cycleOf}
 use Rattle.lent.specs.declared.Kind.{Kind}
 use Rattle.lent.specs.declared.Kind.the-variants as kind
 use Rattle.lent.specs.declared.Source.{Source}
@@ -58,10 +65,10 @@ module _ (s : List ℕ) where
     rota-lent {l} q = let w = located s l (sym (ap layoutGiven q) ∙ r) in rw e (lent-as kind.Rota (source.Rota l) (w .0) (ap source.Rota (w .1)))
 
   module _ (k : Kind) (e : k ≡ kind.Table) (a : TableAnswer) (r : tableGiven a ≡ readOutcome s) where
-    pub table-refused : {n : ℕ} → a ≡ table.Refused n → refused n ≡ lendOutcome k s
+    pub table-refused : {n : ℕ} → a ≡ told.Refused n → refused n ≡ lendOutcome k s
     table-refused {n} q = rw e (refused-as kind.Table n (closed s n (sym (ap tableGiven q) ∙ r)))
 
-    pub table-lent : {n : Counts} → a ≡ table.Accepted n → given (source.Table n) ≡ lendOutcome k s
+    pub table-lent : {n : Counts} → a ≡ told.Accepted n → given (source.Table n) ≡ lendOutcome k s
     unfolding sourceAs
     table-lent {n} q = let w = opened s n (sym (ap tableGiven q) ∙ r) in rw e (lent-as kind.Table (source.Table n) (w .clear) (ap source.Table (w .counts)))
 
@@ -105,6 +112,20 @@ module _ (s : List ℕ) (t : ℕ) {x y : Source} where
   pub answer-as : (u p : ℕ) → x ≡ y → given (policyAs (kindOf y) s .answer u p t) ≡ given (policyAs (kindOf x) s .answer u p t)
   answer-as u p e = ap (λ (z : Source). given (policyAs (kindOf z) s .answer u p t)) (sym e)
 
+-- who holds a permission, and how far
+module _ {s : List ℕ} {x : Source} (w : Lends (kindOf x) s x) {among t set until era : ℕ} where
+  pub held-rota : {l : Layout} → x ≡ source.Rota l → HeldAmong (rota.policyOf (rotaOf s)) (rotaCycle s) among t set until era
+      → HeldAmong (policyAs (kindOf x) s) (cycleOf x) among t set until era
+  held-rota {l} e h =
+      subst (λ (y : Source). HeldAmong (policyAs (kindOf y) s) (cycleOf y) among t set until era) (sym e)
+      (rw (rota-cycle s l (as-rota w e)) h)
+
+  pub held-table : {n : Counts} → x ≡ source.Table n → HeldAmong (table.policyOf (tableOf s)) (tableCycle s) among t set until era
+      → HeldAmong (policyAs (kindOf x) s) (cycleOf x) among t set until era
+  held-table {n} e h =
+      subst (λ (y : Source). HeldAmong (policyAs (kindOf y) s) (cycleOf y) among t set until era) (sym e)
+      (rw (counts-are s n (as-table w e .counts) .cycle) h)
+
 -- by cases of the kind
 kind-as : (k : Kind) (s : List ℕ) → kindOf (sourceAs k s) ≡ k
 unfolding sourceAs
@@ -125,6 +146,11 @@ few-as : (k : Kind) (s : List ℕ) → judgedAs k s ≡ 0 → policyAs k s .user
 unfolding rotaOf tableOf
 few-as kind.Rota s a = rota-fine s a .header .users-most
 few-as kind.Table s a = table-fine s a .header .users-most
+
+cycle-as : (k : Kind) (s : List ℕ) → judgedAs k s ≡ 0 → (0 < cycleOf (sourceAs k s)) × (cycleOf (sourceAs k s) ≤ 40320)
+unfolding sourceAs layoutOf rotaCounts countsOf
+cycle-as kind.Rota s a = let h = rota-fine s a .header in (h .cycle-some, h .cycle-most)
+cycle-as kind.Table s a = let h = table-fine s a .header in (h .cycle-some, h .cycle-most)
 
 module _ {k : Kind} {s : List ℕ} {x : Source} (w : Lends k s x) where
   kind-is : kindOf x ≡ k
@@ -147,3 +173,10 @@ module _ {k : Kind} {s : List ℕ} {x : Source} (w : Lends k s x) where
 
   pub few : usersOf x ≤ 64
   few = omega (arith, users-are, few-as k s (w .accepted))
+
+  pub cycle-fine : (0 < cycleOf x) × (cycleOf x ≤ 40320)
+  cycle-fine = rw (w .source-is) (cycle-as k s (w .accepted))
+
+  -- of those who hold a permission throughout
+  pub steady-are : (among a b : ℕ) {h : ℕ} → h ≡ steadyOver (policyAs (kindOf x) s) among a b → h ≡ steadyOver (policyAs k s) among a b
+  steady-are among a b e = e ∙ ap (λ (j : Kind). steadyOver (policyAs j s) among a b) kind-is

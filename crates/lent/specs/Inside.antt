@@ -41,3 +41,7 @@ usersOf (source.Table n) = n .users
 abbrev pub permissionsOf : Source → ℕ
 permissionsOf (source.Rota l) = l .counts .permissions
 permissionsOf (source.Table n) = n .permissions
+
+abbrev pub cycleOf : Source → ℕ
+cycleOf (source.Rota l) = l .counts .cycle
+cycleOf (source.Table n) = n .cycle

@@ -2,11 +2,14 @@
 ghost use mathlib.Core.Path.{_≡_};
 ghost use Prim.Native.Nat.{_<_};
 ghost use Rattle.ground.specs.Outcome.{given};
+ghost use Rattle.bitset.specs.Sets.{intersection};
 ghost use Rattle.minutes.specs.Minutes.{E};
 ghost use Rattle.policy.specs.Policy.{answerGiven, holdersAt};
+ghost use Rattle.policy.specs.Held.{HeldAmong};
 ghost use Rattle.lent.specs.Lent.{policyAs};
-ghost use Rattle.lent.specs.Inside.{lendingGiven, lendOutcome, kindOf, usersOf, permissionsOf, Lends};
+ghost use Rattle.lent.specs.Inside.{lendingGiven, lendOutcome, kindOf, usersOf, permissionsOf, cycleOf, Lends};
 use policy::Answer;
+use policy::Held;
 use rota::Layout;
 use rota::LayoutAnswer;
 use table::Counts;
@@ -72,6 +75,19 @@ pub fn permissions(source: Source) -> u32
     }
 }
 
+// How many minutes the cycle has.
+pub fn cycle(source: Source) -> u32
+    ensures { λ r. ⌜ r ≡ cycleOf source ⌝ }
+{
+    match source {
+        Source::Rota(l) => {
+            let n = l.counts;
+            n.cycle
+        }
+        Source::Table(n) => n.cycle,
+    }
+}
+
 // What the lent bytes answer at a minute below E: yes with the lowest role, or no.
 pub fn answer_at(s: &[u8], source: Source, u: u32, p: u32, t: u32) -> Answer
     requires { ⌜ Lends (kindOf source) (now s) source × (u < usersOf source) × (p < permissionsOf source) × (t < E) ⌝ }
@@ -91,5 +107,35 @@ pub fn holders_at(s: &[u8], source: Source, t: u32) -> u64
     match source {
         Source::Rota(l) => rota_answers::holders_in(s, l, t),
         Source::Table(n) => table_answers::holders_in(s, n, t),
+    }
+}
+
+// Of `among`, those who hold a permission at a minute below E.
+pub fn held_once(s: &[u8], source: Source, t: u32, among: u64) -> u64
+    requires { ⌜ Lends (kindOf source) (now s) source × (t < E) ⌝ }
+    ensures { λ r. ⌜ r ≡ intersection among (holdersAt (policyAs (kindOf source) (now (s .entry))) t) ⌝ }
+{
+    match source {
+        Source::Rota(l) => bitset::both(among, rota_answers::holders_in(s, l, t)),
+        Source::Table(n) => table_held::held_once(s, n, t, among),
+    }
+}
+
+// Of `among`, those who hold a permission at a minute below E, and how far they go on, looked at as far as `limit`. `places` is where a table's
+// searches begin and end: any numbers will do, and those of a minute shortly before save the searches.
+pub fn held_near(
+    s: &[u8],
+    source: Source,
+    places: &mut [u64; 32],
+    t: u32,
+    among: u64,
+    limit: u32,
+) -> Held
+    requires { ⌜ Lends (kindOf source) (now s) source × (t < E) × (t < limit) ⌝ }
+    ensures { λ r. ⌜ HeldAmong (policyAs (kindOf source) (now (s .entry))) (cycleOf source) among t (r .set) (r .until) (r .era) ⌝ }
+{
+    match source {
+        Source::Rota(l) => rota_times::held_at(s, l, t, among),
+        Source::Table(n) => table_held::held_near(s, n, places, t, among, limit),
     }
 }

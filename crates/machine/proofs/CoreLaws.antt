@@ -9,7 +9,7 @@ use Rattle.ground.specs.Judgement.{refuse, _orElse_}
 use Rattle.ground.specs.Outcome.{refused, given}
 use Rattle.ground.proofs.BoolLaws.{or-no}
 use Rattle.ground.proofs.JudgementLaws.{orElse-ne, orElse-zero, refuse-no}
-use Rattle.bitset.specs.Sets.{has, intersection, difference, count}
+use Rattle.bitset.specs.Sets.{has, difference, count}
 use Rattle.minutes.specs.Minutes.{E}
 use Rattle.machine.specs.Machine.{Gift, closed, state, stateJudged, advanceJudged, openJudged, closeJudged, askJudged, settled}
 use Rattle.machine.specs.Core.{movedStep}
@@ -46,6 +46,14 @@ module _ (users : ℕ) (σ : Service) where
   pub advance-early : (m n : ℕ) → n ≡ stateJudged users σ orElse advanceJudged σ m → n ≡ 0 → m < E
   unfolding advanceJudged
   advance-early m n e z = leb-false E m (refuse-no 32 _ (orElse-zero _ _ (orElse-zero (stateJudged users σ) _ (sym e ∙ z) .1) .0))
+
+  pub advance-forth : (m n : ℕ) → n ≡ stateJudged users σ orElse advanceJudged σ m → n ≡ 0 → σ .now ≤ m
+  unfolding advanceJudged
+  advance-forth m n e z = ltb-false m (σ .now) (refuse-no 40 _ (orElse-zero _ _ (orElse-zero (stateJudged users σ) _ (sym e ∙ z) .1) .1))
+
+  pub advance-open : (m n : ℕ) → n ≡ stateJudged users σ orElse advanceJudged σ m → n ≡ 0 → σ .«open» < 2 ^ users
+  unfolding stateJudged
+  advance-open m n e z = leb-false (2 ^ users) (σ .«open») (or-no (leb E (σ .now)) (leb (2 ^ users) (σ .«open»)) (refuse-no 39 _ (orElse-zero _ _ (sym e ∙ z) .0)) .1)
 
   pub close-inside : (u n : ℕ) → n ≡ stateJudged users σ orElse closeJudged users σ u → n ≡ 0 → u < users
   unfolding closeJudged
@@ -84,7 +92,7 @@ module _ (j : ℕ) (g : Gift) (τ σ : Service) where
 pub settled-as : (j n now x y : ℕ) (g : Gift) (σ : Service) → x ≡ y → n ≡ j → n ≡ 0 → record { outcome = given g; after = state now x } ≡ settled j g (state now y) σ
 settled-as j n now x y g σ e q z = ap (λ (a : ℕ). record { outcome = given g; after = state now a }) e ∙ settled-given j g (state now y) σ n q z
 
-pub moved-as : (holders : ℕ) (σ : Service) (m stays n : ℕ) → stays ≡ intersection (σ .«open») holders → n ≡ count (difference (σ .«open») stays)
-    → record { outcome = given (closed n); after = state m stays } ≡ movedStep holders σ m
+pub moved-as : (stays : ℕ) (σ : Service) (m n : ℕ) → n ≡ count (difference (σ .«open») stays)
+    → record { outcome = given (closed n); after = state m stays } ≡ movedStep stays σ m
 unfolding movedStep
-moved-as holders σ m stays n es en = rw (en, es) refl
+moved-as stays σ m n en = rw en refl

@@ -3,7 +3,7 @@ use Prim.Native.Nat.{ℕ}
 use mathlib.Core.Option.{Option}
 use Rattle.ground.specs.Judgement.{_orElse_}
 use Rattle.ground.specs.Outcome.{Outcome, refused, given}
-use Rattle.bitset.specs.Sets.{has, insert, remove, intersection, difference, count}
+use Rattle.bitset.specs.Sets.{has, insert, remove, difference, count}
 use Rattle.machine.specs.Machine.{Gift, Step, closed, done, answered, state, stateJudged, openJudged, closeJudged, settled}
 use Rattle.machine.specs.declared.Service.{Service}
 
@@ -14,10 +14,9 @@ closedStep users σ u = settled (stateJudged users σ orElse closeJudged users �
 unfoldable pub openedStep : ℕ → ℕ → Service → ℕ → Step
 openedStep users holders σ u = settled (openJudged users (has holders u) σ u) done (state (σ .now) (insert (σ .«open») u)) σ
 
--- an advance that is not refused, where the set holds a permission at m
+-- an advance that is not refused, to minute m, where the set stays
 unfoldable pub movedStep : ℕ → Service → ℕ → Step
-movedStep holders σ m =
-    let stays = intersection (σ .«open») holders in
+movedStep stays σ m =
     record { outcome = given (closed (count (difference (σ .«open») stays))); after = state m stays }
 
 -- an ask that is not refused, by what the lent bytes answer

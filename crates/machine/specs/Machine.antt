@@ -1,15 +1,16 @@
--- The plain machine (document 01, "The service"; refusals 40 to 44). It is fed what answers questions, a policy, and the calls' arguments, and
+-- The plain machine (document 01, "The service"; refusals 40 to 44), as document 02, item 3, amends it. It is fed what answers questions, a policy, and the calls' arguments, and
 -- keeps a state of its own. It knows nothing of bytes.
-use Prim.Native.Nat.{ℕ, zero, suc, _^_}
-use mathlib.Core.Bool.{Bool, not, _&&_, _||_}
+use Prim.Native.Nat.{ℕ, zero, suc, _+_, _^_}
+use mathlib.Core.Bool.{Bool, not, _||_}
 use mathlib.Core.Option.{Option}
 use mathlib.Core.List.{List, [], _∷_}
 use lib.Dec.{leb, ltb}
 use Rattle.ground.specs.Judgement.{refuse, _orElse_}
 use Rattle.ground.specs.Outcome.{Outcome, refused, given}
-use Rattle.bitset.specs.Sets.{has, setOf, insert, remove, difference, count}
+use Rattle.bitset.specs.Sets.{has, insert, remove, difference, count}
 use Rattle.minutes.specs.Minutes.{E}
 use Rattle.policy.specs.Policy.{Policy, holdsAny}
+use Rattle.policy.specs.Steady.{steadyOver}
 use Rattle.machine.specs.declared.Service.{Service}
 
 -- the state: now, a minute, and open, a set of users
@@ -36,9 +37,9 @@ pub record Step : Type 0 where
   pub outcome : Outcome Gift
   pub after : Service
 
--- those in open who hold a permission at m
-unfoldable pub staying : Policy → ℕ → ℕ → ℕ
-staying π sessions m = setOf (π .users) (λ u. has sessions u && holdsAny π m u)
+-- those in open who hold a permission at each minute after now, up to and with m (document 02, item 3)
+unfoldable pub staying : Policy → ℕ → ℕ → ℕ → ℕ
+staying π sessions now m = steadyOver π sessions (now + 1) (m + 1)
 
 -- 40: now over E - 1, or a bit of open at or above U
 unfoldable pub stateJudged : ℕ → Service → ℕ
@@ -65,13 +66,13 @@ callJudged π σ (ask u p) = askJudged (π .users) (π .permissions) σ u p
 
 -- what a call that is not refused gives, and the state that it leaves
 unfoldable pub given-by : Policy → Service → Call → Gift
-given-by π σ (advance m) = closed (count (difference (σ .«open») (staying π (σ .«open») m)))
+given-by π σ (advance m) = closed (count (difference (σ .«open») (staying π (σ .«open») (σ .now) m)))
 given-by π σ («open» u) = done
 given-by π σ (close u) = done
 given-by π σ (ask u p) = answered (π .answer u p (σ .now))
 
 unfoldable pub left-by : Policy → Service → Call → Service
-left-by π σ (advance m) = state m (staying π (σ .«open») m)
+left-by π σ (advance m) = state m (staying π (σ .«open») (σ .now) m)
 left-by π σ («open» u) = state (σ .now) (insert (σ .«open») u)
 left-by π σ (close u) = state (σ .now) (remove (σ .«open») u)
 left-by π σ (ask u p) = σ

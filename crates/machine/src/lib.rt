@@ -123,11 +123,10 @@ pub fn judge_ask(users: u32, permissions: u32, service: Service, u: u32, p: u32)
     }
 }
 
-// An advance that is not refused: those stay who hold a permission at m.
-pub fn moved(holders: u64, service: Service, m: u32) -> Advanced
-    ensures { λ r. ⌜ advancedStep r ≡ movedStep holders service m ⌝ }
+// An advance that is not refused, and the sessions that stay.
+pub fn moved(stays: u64, service: Service, m: u32) -> Advanced
+    ensures { λ r. ⌜ advancedStep r ≡ movedStep stays service m ⌝ }
 {
-    let stays = bitset::both(service.open, holders);
     let closed = bitset::count_lost(service.open, stays);
     Advanced::Closed(
         closed,

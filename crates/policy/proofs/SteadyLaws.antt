@@ -2,6 +2,8 @@
 --     steady-all                    with no minute it is everyone of the set
 --     steady-join, steady-more      two stretches, one after the other
 --     steady-over                   nobody is left
+--     steady-small                  the set by its members
+--     steady-one                    one minute
 --     holder                        whether one is among those who hold a permission
 --     swept-none, swept-more        a sweep, step by step
 --     swept-all                     where it has passed a whole cycle, what goes by the cycle is known
@@ -48,11 +50,11 @@ module _ (π : Policy) where
       go v m true e = rw (e, h v (leb-true a v e) m) refl
 
   -- the set by its members
-  steady-small : (among a b : ℕ) → steadyOver π among a b < 2 ^ π .users
+  pub steady-small : (among a b : ℕ) → steadyOver π among a b < 2 ^ π .users
   unfolding steadyOver
   steady-small among a b = setOf-lt (π .users) _
 
-  steady-out : (among a b u : ℕ) → u < π .users → has (steadyOver π among a b) u ≡ true → (has among u ≡ true) × Throughout a b u
+  pub steady-out : (among a b u : ℕ) → u < π .users → has (steadyOver π among a b) u ≡ true → (has among u ≡ true) × Throughout a b u
   unfolding steadyOver
   steady-out among a b u l h = let p = and-yes _ _ (sym (has-below (π .users) _ u l) ∙ h) in (p .0, no-lapse a b u (p .1))
 
@@ -64,7 +66,7 @@ module _ (π : Policy) where
       (λ u l. eq-ext _ _ (λ h. let p = only u l h in and-both _ _ (p .0) (lapse-none a b u (p .1)))
       (λ h. let p = and-yes _ _ h in all u l (p .0) (no-lapse a b u (p .1))))
 
-  steady-in : (among a b u : ℕ) → u < π .users → has among u ≡ true → Throughout a b u → has (steadyOver π among a b) u ≡ true
+  pub steady-in : (among a b u : ℕ) → u < π .users → has among u ≡ true → Throughout a b u → has (steadyOver π among a b) u ≡ true
   unfolding steadyOver
   steady-in among a b u l h k = has-below (π .users) _ u l ∙ and-both _ _ h (lapse-none a b u k)
 
@@ -94,6 +96,20 @@ module _ (π : Policy) where
   held-of : (few : π .users ≤ 64) (x v : ℕ) → intersection x (holdersAt π v) ≡ setOf (π .users) (λ u. has x u && holdsAny π v u)
   unfolding holdersAt
   held-of few x v = intersection-of (π .users) x (holdsAny π v) few
+
+  -- one minute
+  pub steady-one : π .users ≤ 64 → (among a b : ℕ) {x : ℕ} → b ≡ a + 1 → x ≡ intersection among (holdersAt π a) → x ≡ steadyOver π among a b
+  steady-one few among a b {x} eb e =
+      steady-is among a b x (rw set-is (setOf-lt (π .users) _))
+      (λ u l h. let p = and-yes (has among u) (holdsAny π a u) (sym (both u l) ∙ h) in
+      (p .0, λ v y z. let w : v ≡ a = omega arith in rw w (p .1)))
+      (λ u l h g. both u l ∙ and-both _ _ h (g a (le-refl a) (omega arith)))
+    where
+      set-is : x ≡ setOf (π .users) (λ u. has among u && holdsAny π a u)
+      set-is = e ∙ held-of few among a
+
+      both : (u : ℕ) → u < π .users → has x u ≡ (has among u && holdsAny π a u)
+      both u l = ap (λ (z : ℕ). has z u) set-is ∙ has-below (π .users) _ u l
 
   -- ---- a sweep from x on that has come to y: `stays` are left of `among`, and what was seen goes by the cycle to before e
   pub record Swept (c among x y e stays : ℕ) : Type 0 where

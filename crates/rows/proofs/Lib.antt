@@ -1,2 +1,1 @@
-pub mod ReachedLaws
-pub mod TurnLaws
+pub mod StageLaws

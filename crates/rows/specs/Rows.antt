@@ -1,19 +1,33 @@
--- Which rows a minute has reached: what the steps of the search promise each other, which no reader has to believe.
-use Prim.Native.Nat.{ℕ, _+_, _-_, _*_}
-use mathlib.Core.Bool.{Bool, _&&_, _||_, not}
+-- The row of a source role that covers a minute, and where the other rows stand then: what the steps of the search promise each other, which no reader
+-- has to believe.
+use Prim.Native.Nat.{ℕ, _+_, _%_, _≤_, _<_}
+use mathlib.Core.Path.{_≡_}
+use mathlib.Core.Logic.{_⊎_}
+use mathlib.Core.Bool.{Bool, true, _&&_}
 use mathlib.Core.List.{List}
-use lib.Dec.{leb}
-use Rattle.minutes.specs.Minutes.{Window}
-use Rattle.table.specs.TableBytes.{rowAtByte}
+use lib.Dec.{eqb}
+use Rattle.ground.specs.From.{firstFrom}
+use Rattle.minutes.specs.Minutes.{Window, covers}
+use Rattle.table.specs.TableBytes.{cycleOf, rowsOf, rowOf}
+use Rattle.table.specs.TableRefusals.{sourceOf}
 
--- at minute t with phase x the window has begun, and it is over or its offset is not past the phase
-unfoldable pub reached : Window → ℕ → ℕ → Bool
-reached w t x = leb (w .begin) t && (leb (w .end) t || leb (w .offset) x)
+-- row i is of role r and covers minute t
+abbrev pub coversFor : List ℕ → ℕ → ℕ → ℕ → Bool
+coversFor s r t i = eqb (sourceOf s i) r && covers (cycleOf s) (rowOf s i .window) t
 
--- row i of the rows that begin at `first`
-abbrev pub reachedAt : List ℕ → ℕ → ℕ → ℕ → ℕ → Bool
-reachedAt s first t x i = reached (rowAtByte s (first + 16 * i) .window) t x
+-- the row of role r that covers minute t, or the number of rows
+unfoldable pub rowFor : List ℕ → ℕ → ℕ → ℕ
+rowFor s r t = firstFrom 0 (rowsOf s) (coversFor s r t)
 
--- of the numbers lo to before hi the one before k passes and k does not, where they are there
-unfoldable pub turnsAt : (ℕ → Bool) → ℕ → ℕ → ℕ → Bool
-turnsAt f lo hi k = leb lo k && leb k hi && (leb k lo || f (k - 1)) && (leb hi k || not (f k))
+-- rows go by source role, then by dates, then by phase; a window of role q is behind role r at minute t, whose phase is x, or ahead of it
+abbrev pub Behind : ℕ → Window → ℕ → ℕ → ℕ → Type 0
+Behind q w r t x = (q < r) ⊎ ((q ≡ r) × (w .begin ≤ t) × ((w .end ≤ t) ⊎ (w .offset + w .length ≤ x)))
+
+abbrev pub Ahead : ℕ → Window → ℕ → ℕ → ℕ → Type 0
+Ahead q w r t x = (r < q) ⊎ ((q ≡ r) × ((t < w .begin) ⊎ ((t < w .end) × (x < w .offset))))
+
+-- what the number of a stage says of row i
+pub record StageIs (s : List ℕ) (r t i n : ℕ) : Type 0 where
+  pub behind : n ≡ 0 → Behind (sourceOf s i) (rowOf s i .window) r t (t % cycleOf s)
+  pub covering : n ≡ 1 → coversFor s r t i ≡ true
+  pub ahead : 1 < n → Ahead (sourceOf s i) (rowOf s i .window) r t (t % cycleOf s)

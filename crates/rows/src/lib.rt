@@ -1,108 +1,102 @@
-// The rows of one source role of an accepted table, searched by halving: of them one at most can cover a minute.
+// The row of a source role of an accepted table that covers a minute: looked for where it is likely to be, else by halving.
 ghost use mathlib.Core.Path.{_≡_};
-ghost use mathlib.Core.Bool.{_||_, not};
-ghost use Prim.Native.Nat.{_+_, _-_, _*_, _≤_};
-ghost use lib.Dec.{leb};
-ghost use lib.ListN.{length};
-ghost use Rattle.ground.specs.Partition.{Partitioned, PartitionPoint};
-ghost use Rattle.table.specs.TableBytes.{rowAtByte};
-ghost use Rattle.rows.specs.Rows.{reached, reachedAt, turnsAt};
+ghost use Prim.Native.Nat.{_%_, _≤_, _<_};
+ghost use Rattle.table.specs.TableBytes.{cycleOf};
+ghost use Rattle.table.specs.Inside.{Opened};
+ghost use Rattle.rows.specs.Rows.{rowFor, StageIs};
+use table::Counts;
 
-// Whether the row at `at` is reached at minute t, whose phase is x.
-fn is_reached(s: &[u8], at: usize, t: u32, x: u32) -> bool
-    requires { ⌜ at + 16 ≤ length (now s) ⌝ }
-    ensures { λ r. ⌜ r ≡ reached (rowAtByte (now (s .entry)) at .window) t x ⌝ }
+// Where row i stands at minute t, whose phase is x, as to a role: 0 behind, 1 of the role and covering the minute, 2 ahead.
+fn stage(s: &[u8], n: Counts, i: usize, role: usize, t: u32, x: u32) -> u8
+    requires { ⌜ Opened (now s) n × (i < n .rows) × (x ≡ t % cycleOf (now s)) ⌝ }
+    ensures { λ r. ⌜ StageIs (now (s .entry)) role t i r ⌝ }
 {
-    if t < endian::read32(s, at + 4) {
-        return false;
+    let at = 16 + 17 * (n.derived as usize) + 16 * i;
+    let source = row_times::row_role(s, at);
+    if source < role {
+        return 0;
     }
-    if endian::read32(s, at + 8) <= t {
-        return true;
+    if role < source {
+        return 2;
     }
-    endian::read16(s, at + 12) as u32 <= x
+    let w = table::read_window(s, at);
+    if t < w.begin {
+        return 2;
+    }
+    if w.end <= t {
+        return 0;
+    }
+    if x < w.offset as u32 {
+        return 2;
+    }
+    if x - (w.offset as u32) < w.length as u32 {
+        1
+    } else {
+        0
+    }
 }
 
-// Of the rows lo to before hi, which begin at `first`, the number of the first that is not reached, or hi.
-pub fn split(s: &[u8], first: usize, lo: usize, hi: usize, t: u32, x: u32) -> usize
-    requires { ⌜ (lo ≤ hi) × (first + 16 * hi ≤ length (now s)) × Partitioned (reachedAt (now s) first t x) lo hi ⌝ }
-    ensures { λ r. ⌜ PartitionPoint (reachedAt (now (s .entry)) first t x) lo hi r ⌝ }
+// A number from a to before b, where there is one: `step` after a, or the middle where that is nearer.
+fn after(a: usize, b: usize, step: usize) -> usize
+    requires { ⌜ a ≤ b ⌝ }
+    ensures { λ r. ⌜ (a ≤ r) × (a < b → r < b) ⌝ }
 {
-    let mut a = lo;
-    let mut b = hi;
+    let half = (b - a) / 2;
+    if step < half { a + step } else { a + half }
+}
+
+// The same from the other end: `step` before the last.
+fn before(a: usize, b: usize, step: usize) -> usize
+    requires { ⌜ a ≤ b ⌝ }
+    ensures { λ r. ⌜ (a ≤ r) × (a < b → r < b) ⌝ }
+{
+    let half = (b - a) / 2;
+    if step < half { b - 1 - step } else { a + half }
+}
+
+// The next step: each about twice the one before.
+fn wider(step: usize) -> usize {
+    if step < 4294967296 {
+        2 * step + 1
+    } else {
+        step
+    }
+}
+
+// A row, or the number of rows; and where a search at a later minute may begin, which promises nothing.
+pub struct Found {
+    pub row: usize,
+    pub next: usize,
+}
+
+// The row of a role that covers minute t, whose phase is x, or the number of rows. Row `guess` is looked at first, then those beside it, and on in
+// wider steps: any number will do for it, and one that is near saves the search. Where it is no row the search goes by halving.
+pub fn row_at(s: &[u8], n: Counts, role: usize, guess: usize, t: u32, x: u32) -> Found
+    requires { ⌜ Opened (now s) n × (x ≡ t % cycleOf (now s)) ⌝ }
+    ensures { λ r. ⌜ r .row ≡ rowFor (now (s .entry)) role t ⌝ }
+{
+    let rows = n.rows as usize;
+    let mut a = 0;
+    let mut b = rows;
+    let mut m = rows / 2;
+    let mut step = rows;
+    if guess < rows {
+        m = guess;
+        step = 0;
+    }
     while a < b {
-        let m = a + (b - a) / 2;
-        if is_reached(s, first + 16 * m, t, x) {
+        let at = stage(s, n, m, role, t, x);
+        if at == 1 {
+            return Found { row: m, next: m };
+        }
+        if at == 0 {
             a = m + 1;
+            m = after(a, b, step);
         } else {
             b = m;
+            m = before(a, b, step);
         }
+        step = wider(step);
     }
-    a
-}
-
-// The row before row k is reached, where it is not before row lo.
-fn is_past(s: &[u8], first: usize, lo: usize, k: usize, t: u32, x: u32) -> bool
-    requires { ⌜ first + 16 * k ≤ length (now s) ⌝ }
-    ensures { λ r. ⌜ r ≡ (leb k lo || reachedAt (now (s .entry)) first t x (k - 1)) ⌝ }
-{
-    if k <= lo {
-        true
-    } else {
-        is_reached(s, first + 16 * (k - 1), t, x)
-    }
-}
-
-// Row k is not reached, where it is before row hi.
-fn is_ahead(s: &[u8], first: usize, hi: usize, k: usize, t: u32, x: u32) -> bool
-    requires { ⌜ first + 16 * hi ≤ length (now s) ⌝ }
-    ensures { λ r. ⌜ r ≡ (leb hi k || not (reachedAt (now (s .entry)) first t x k)) ⌝ }
-{
-    if hi <= k {
-        true
-    } else {
-        !is_reached(s, first + 16 * k, t, x)
-    }
-}
-
-// Whether row k is what `split` gives.
-fn is_split(s: &[u8], first: usize, lo: usize, hi: usize, k: usize, t: u32, x: u32) -> bool
-    requires { ⌜ first + 16 * hi ≤ length (now s) ⌝ }
-    ensures { λ r. ⌜ r ≡ turnsAt (reachedAt (now (s .entry)) first t x) lo hi k ⌝ }
-{
-    if k < lo {
-        return false;
-    }
-    if hi < k {
-        return false;
-    }
-    if is_past(s, first, lo, k, t, x) {
-        is_ahead(s, first, hi, k, t, x)
-    } else {
-        false
-    }
-}
-
-// What `split` gives, looked for at `near` and right after it first: any number will do for that, and the right one saves the search.
-pub fn split_near(
-    s: &[u8],
-    first: usize,
-    lo: usize,
-    hi: usize,
-    near: usize,
-    t: u32,
-    x: u32,
-) -> usize
-    requires { ⌜ (lo ≤ hi) × (first + 16 * hi ≤ length (now s)) × Partitioned (reachedAt (now s) first t x) lo hi ⌝ }
-    ensures { λ r. ⌜ PartitionPoint (reachedAt (now (s .entry)) first t x) lo hi r ⌝ }
-{
-    if is_split(s, first, lo, hi, near, t, x) {
-        return near;
-    }
-    if hi <= near {
-        return split(s, first, lo, hi, t, x);
-    }
-    if is_split(s, first, lo, hi, near + 1, t, x) {
-        return near + 1;
-    }
-    split(s, first, lo, hi, t, x)
+    Found { row: rows, next: a }
 }

@@ -1,18 +1,19 @@
 -- The calls' parts make up the calls of the machine, over any policy whose counts are at hand.
 -- Assumes nothing.
-use Prim.Native.Nat.{ℕ, _^_, _<_, _≤_}
+use Prim.Native.Nat.{ℕ, _+_, _<_, _≤_}
 use mathlib.Core.Path.{_≡_, refl, sym, ap, ap₂, _∙_}
-use mathlib.Core.Bool.{Bool, true, false, _&&_}
+use mathlib.Core.Bool.{Bool, true, false}
 use mathlib.Core.Option.{Option}
 use borrow.Author.Tests.{leb-false}
 use native.Mathlib.Omega.{arith}
-use lib.Dec.{leb, ltb}
+use lib.Dec.{leb}
 use Rattle.ground.specs.Judgement.{refuse, _orElse_}
 use Rattle.ground.specs.Outcome.{Outcome, refused, given}
 use Rattle.ground.proofs.JudgementLaws.{orElse-ne}
-use Rattle.bitset.specs.Sets.{has, setOf, intersection, difference, count}
-use Rattle.bitset.proofs.SetLaws.{ext, has-setOf, has-below, has-intersection, intersection-lt, fits-64}
+use Rattle.bitset.specs.Sets.{has, difference, count}
+use Rattle.bitset.proofs.SetLaws.{has-below}
 use Rattle.policy.specs.Policy.{Policy, holdsAny, holdersAt}
+use Rattle.policy.specs.Steady.{steadyOver}
 use Rattle.machine.proofs.CoreLaws.{settled-refused, settled-given}
 use Rattle.machine.specs.Machine.{Call, advance, «open», close, ask, closed, state, staying, stateJudged, advanceJudged, openJudged, closeJudged, askJudged, callJudged, given-by, left-by, stepBy, serviceStep}
 use Rattle.machine.specs.Core.{movedStep, openedStep, closedStep, answeredStep}
@@ -24,13 +25,6 @@ pub record Ready (j users permissions : ℕ) (π : Policy) : Type 0 where
   pub users-are : users ≡ π .users
   pub permissions-are : permissions ≡ π .permissions
   pub few : users ≤ 64
-
--- the test in the middle comes first
-and-turn : (a b c : Bool) → (a && (b && c)) ≡ (b && (a && c))
-and-turn true true c = refl
-and-turn true false c = refl
-and-turn false true c = refl
-and-turn false false c = refl
 
 module _ (π : Policy) (σ : Service) where
   step-refused : (n : ℕ) (c : Call) → (n ≡ 0 → ⊥) → record { outcome = refused n; after = σ } ≡ stepBy n π σ c
@@ -63,9 +57,6 @@ module _ {j users permissions : ℕ} {π : Policy} (w : Ready j users permission
   state-as : stateJudged users σ ≡ stateJudged (π .users) σ
   state-as = ap (λ (n : ℕ). stateJudged n σ) (w .users-are)
 
-  small : π .users ≤ 64
-  small = omega (arith, w .few, w .users-are)
-
   -- the judgements by the counts are those by the policy
   advance-as : (m n : ℕ) → n ≡ stateJudged users σ orElse advanceJudged σ m → n ≡ stateJudged (π .users) σ orElse callJudged π σ (advance m)
   unfolding callJudged
@@ -91,24 +82,15 @@ module _ {j users permissions : ℕ} {π : Policy} (w : Ready j users permission
       go true h = rw h refl
       go false h = rw (has-holder (σ .now) u (leb-false _ _ h)) refl
 
-  -- those who stay
-  stays-as : (holders m : ℕ) → holders ≡ holdersAt π m → intersection (σ .«open») holders ≡ staying π (σ .«open») m
-  unfolding staying holdersAt
-  stays-as holders m e =
-      ap (intersection (σ .«open»)) e
-      ∙ ext 64 _ _ (intersection-lt (σ .«open») (setOf (π .users) (holdsAny π m))) (fits-64 (π .users) _ small)
-      (λ i l. has-intersection (σ .«open») _ i l ∙ ap (λ (b : Bool). has (σ .«open») i && b) (has-setOf (π .users) (holdsAny π m) i)
-      ∙ and-turn (has (σ .«open») i) (ltb i (π .users)) (holdsAny π m i) ∙ sym (has-setOf (π .users) _ i))
-
   -- advance
   pub advance-refused : (m n : ℕ) → n ≡ stateJudged users σ orElse advanceJudged σ m → (n ≡ 0 → ⊥) → record { outcome = refused n; after = σ } ≡ serviceStep j π σ (advance m)
   advance-refused m n e h = call-refused n (advance m) (advance-as m n e) h
 
-  pub advance-moved : (m n holders : ℕ) → n ≡ stateJudged users σ orElse advanceJudged σ m → n ≡ 0 → holders ≡ holdersAt π m
-      → movedStep holders σ m ≡ serviceStep j π σ (advance m)
-  unfolding movedStep given-by left-by
-  advance-moved m n holders e z h =
-      ap (λ (x : ℕ). record { outcome = given (closed (count (difference (σ .«open») x))); after = state m x }) (stays-as holders m h)
+  pub advance-moved : (m n stays : ℕ) → n ≡ stateJudged users σ orElse advanceJudged σ m → n ≡ 0 → stays ≡ steadyOver π (σ .«open») (σ .now + 1) (m + 1)
+      → movedStep stays σ m ≡ serviceStep j π σ (advance m)
+  unfolding movedStep given-by left-by staying
+  advance-moved m n stays e z h =
+      ap (λ (x : ℕ). record { outcome = given (closed (count (difference (σ .«open») x))); after = state m x }) h
       ∙ call-given n (advance m) (advance-as m n e) z
 
   -- open

@@ -1,8 +1,9 @@
 //! Times each operation of the proved code against the quick implementation, on the same inputs in
 //! one run, and prints the ratio. Readers are also shown beside a plain pass over the same bytes.
-//! At the end all stands in one table.
+//! At the end all stands in one table, and advances that take long in tables of their own.
 
 mod inputs;
+mod jumps;
 mod timing;
 
 use std::hint::black_box;
@@ -30,7 +31,7 @@ impl Report {
     /// One line: both times, and how many times as long the proved code takes.
     fn print(&mut self, operation: &str, input: &'static str, times: Times) {
         println!(
-            "{operation:<22} {input:<22} {} {} {:>9.3}",
+            "{operation:<24} {input:<22} {} {} {:>9.3}",
             nanoseconds(times.proved),
             nanoseconds(times.tuned),
             times.ratio()
@@ -45,7 +46,7 @@ impl Report {
         let pass = time(|_| sum(black_box(bytes)), |_| sum(black_box(bytes)));
         let speed = |seconds: f64| bytes.len() as f64 / seconds / 1e6;
         println!(
-            "{:<22} {:<22} {:>9.0} MB/s {:>9.0} MB/s, plain pass {:.0} MB/s",
+            "{:<24} {:<22} {:>9.0} MB/s {:>9.0} MB/s, plain pass {:.0} MB/s",
             "",
             format!("  {} bytes", bytes.len()),
             speed(times.proved),
@@ -176,14 +177,16 @@ fn rewrite(input: &Input, report: &mut Report) {
     }
 }
 
-/// Everyone is open, and time goes from minute 0 to the question's, or stands there; to open,
-/// nobody is.
+/// Everyone is open, and time goes to the question's minute from the one before, or through all 400
+/// years, or stands there; to open, nobody is.
 fn service(input: &Input, report: &mut Report) {
     let calls = |i: usize| {
         let Question { user, permission, minute } = input.question(i);
+        let minute = minute.max(1);
         let at = |now, open, call| (State { now, open }, call);
         [
-            ("advance", at(0, input.everyone, Call::Advance(minute))),
+            ("advance 1 minute", at(minute - 1, input.everyone, Call::Advance(minute))),
+            ("advance 400 years", at(0, input.everyone, Call::Advance(END - 1))),
             ("open", at(minute, 0, Call::Open(user))),
             ("close", at(minute, input.everyone, Call::Close(user))),
             ("ask", at(minute, input.everyone, Call::Ask(user, permission))),
@@ -253,7 +256,7 @@ fn main() {
         );
     }
     println!(
-        "\n{:<22} {:<22} {:>14} {:>14} {:>9}",
+        "\n{:<24} {:<22} {:>14} {:>14} {:>9}",
         "operation", "input", "proved ns", "tuned ns", "ratio"
     );
     let mut report = Report::default();
@@ -271,4 +274,12 @@ fn main() {
         dates(&mut report);
     }
     report.print_table(&inputs);
+    if is_chosen("jumps") {
+        jumps::print_worst_rotas();
+        jumps::print_worst_tables();
+    }
+    // It takes minutes, so only who asks for it gets it. After it come names of tables.
+    if let Some(years) = chosen.iter().position(|group| group == "years") {
+        jumps::print_worst_tables_of_years(&chosen[years + 1..]);
+    }
 }

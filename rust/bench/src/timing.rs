@@ -68,6 +68,16 @@ impl<T, F: FnMut(usize) -> T> Timed<F> {
     }
 }
 
+/// One call of each, for what takes minutes.
+pub fn time_once<T, U>(proved: impl FnOnce() -> T, tuned: impl FnOnce() -> U) -> Times {
+    fn seconds<T>(call: impl FnOnce() -> T) -> f64 {
+        let start = Instant::now();
+        black_box(call());
+        start.elapsed().as_secs_f64()
+    }
+    Times { proved: seconds(proved), tuned: seconds(tuned) }
+}
+
 /// The quickest round of each; rounds alternate. Where one call takes long there are few. Their
 /// number follows from the quickest, not from the time spent: interrupted rounds use up nothing.
 pub fn time<T, U>(proved: impl FnMut(usize) -> T, tuned: impl FnMut(usize) -> U) -> Times {

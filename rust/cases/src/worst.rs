@@ -1,6 +1,8 @@
 //! Rotas that are made to take long, all near their limits, and what a search for worse ones
 //! changes. A rota here is given by the order of its cuts: which record begins or ends at each.
 
+pub mod jumps;
+
 use reference::hours::HoursRef;
 use reference::rota::{Rota, Row};
 

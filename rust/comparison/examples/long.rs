@@ -25,8 +25,8 @@ const fn kind(name: &'static str, share: u64, compare: fn(&mut Case, &mut Tally)
     Kind { name, share, compare }
 }
 
-const KINDS: [Kind; 20] = [
-    kind("rota well formed", 200, rota::well_formed),
+const KINDS: [Kind; 22] = [
+    kind("rota well formed", 170, rota::well_formed),
     kind("rota several faults", 200, rota::several_faults),
     kind("rota any bytes", 50, rota::any_bytes),
     kind("table by hand", 120, table::by_hand),
@@ -41,6 +41,8 @@ const KINDS: [Kind; 20] = [
     kind("service list", 10, service::list),
     kind("service odd states", 20, service::odd_states),
     kind("service table by hand", 10, service::table_made_by_hand),
+    kind("service jumps", 15, service::jumps),
+    kind("service jumps, table by hand", 15, service::jumps_on_tables_made_by_hand),
     kind("service damaged", 20, service::damaged),
     kind("hours at any place", 20, hours::at_any_place),
     kind("hours several faults", 20, hours::several_faults),

@@ -9,6 +9,7 @@
 
 pub mod bytes;
 pub mod calendar;
+pub mod edges;
 pub mod hours;
 pub mod listing;
 pub mod policy;

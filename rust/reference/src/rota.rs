@@ -1,8 +1,9 @@
 //! Rotas: who has which role when, and what each role permits when.
 
 use crate::bytes::u16_at;
+use crate::edges::Edges;
 use crate::hours::{Hours, HoursRef};
-use crate::policy::Policy;
+use crate::policy::{self, Policy};
 use crate::set;
 use crate::{CYCLE_LIMIT, Refusal};
 
@@ -179,5 +180,9 @@ impl Policy for Rota {
         (0..self.roles.len() as u8)
             .filter(|&role| self.role_is_enabled(role, t) && self.permissions_of_role(role, t) != 0)
             .fold(0, |holders, role| holders | self.users_of_role(role, t))
+    }
+
+    fn staying(&self, open: u64, now: u32, m: u32) -> u64 {
+        policy::staying(self, || Edges::of_rota(self), open, now, m)
     }
 }

@@ -65,6 +65,8 @@ pub fn step(policy: &dyn Policy, state: &mut State, call: Call) -> Result<Reply,
     }
 }
 
+/// Closes every session whose user holds nothing at some minute after the old now, up to and with
+/// the new one, and no other.
 fn advance(policy: &dyn Policy, state: &mut State, m: u32) -> Result<u32, Refusal> {
     if m >= END {
         return Err(33);
@@ -72,7 +74,7 @@ fn advance(policy: &dyn Policy, state: &mut State, m: u32) -> Result<u32, Refusa
     if m < state.now {
         return Err(41);
     }
-    let kept = state.open & policy.holders(m);
+    let kept = policy.staying(state.open, state.now, m);
     let closed = (state.open & !kept).count_ones();
     *state = State { now: m, open: kept };
     Ok(closed)

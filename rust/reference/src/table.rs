@@ -1,7 +1,8 @@
 //! Flat tables: derived roles whose users and permissions never change, and rows that say when.
 
 use crate::bytes::{u16_at, u32_at, u64_at};
-use crate::policy::{Policy, question};
+use crate::edges::Edges;
+use crate::policy::{self, Policy, question};
 use crate::set;
 use crate::{CYCLE_LIMIT, END, Refusal};
 
@@ -208,5 +209,9 @@ impl Policy for Table {
         self.enabled(t)
             .filter(|entry| entry.permissions != 0)
             .fold(0, |holders, entry| holders | entry.users)
+    }
+
+    fn staying(&self, open: u64, now: u32, m: u32) -> u64 {
+        policy::staying(self, || Edges::of_table(self), open, now, m)
     }
 }

@@ -5,7 +5,8 @@ use std::collections::{BTreeMap, BTreeSet, HashSet};
 use cases::generate;
 use cases::random::Random;
 use reference::END;
-use reference::policy::Policy;
+use reference::edges::Edges;
+use reference::policy::{Policy, staying_at};
 use reference::rewriting;
 use reference::rota::Rota;
 use reference::service::{Call, Lent, Reply, State, serve, step};
@@ -39,14 +40,17 @@ fn same_answers(left: &dyn Policy, right: &dyn Policy, t: u32) {
 fn generated_rotas_and_tables_are_well_formed() {
     let mut random = Random::new(1);
     for case in 0..20_000 {
-        let rota = match case % 3 {
+        let rota = match case % 4 {
             0 => generate::small_rota(&mut random),
             1 => generate::rota(&mut random),
+            2 => generate::relay_rota(&mut random),
             _ => generate::rota_of(&mut random, &generate::edge_sizes(case % generate::EDGE_SIZES)),
         };
         assert_eq!(Rota::parse(&rota.encode()), Ok(rota), "case {case}");
-        let table = match case % 2 {
+        let table = match case % 4 {
             0 => generate::small_table(&mut random),
+            1 => generate::relay_table(&mut random),
+            2 => generate::dense_table(&mut random),
             _ => generate::table(&mut random),
         };
         assert_eq!(Table::parse(&table.encode()), Ok(table), "case {case}");
@@ -118,6 +122,70 @@ fn the_next_use_minute_by_minute() {
         assert_eq!(table.next_use(user, table.permissions.into(), 0), Err(35));
     }
     assert!(seen.iter().all(|&times| times > 1_000), "none, later and now: {seen:?}");
+}
+
+/// What a jump leaves, by the minutes that stand for all and by all of them.
+fn same_staying(random: &mut Random, policy: &dyn Policy, edges: &Edges, seen: &mut [u32; 3]) {
+    let open = random.bits() & reference::set::below(policy.users());
+    let spans: Vec<u32> = edges.spans.iter().copied().filter(|&span| span < END).collect();
+    for _ in 0..6 {
+        let near = random.pick(&spans) + random.below(2 * edges.cycle);
+        let now = near.saturating_sub(random.below(2 * edges.cycle)).min(END - 1);
+        let m = generate::jump(random, edges, now).min(now + 3_000);
+        let expected = staying_at(policy, open, now + 1..=m);
+        assert_eq!(staying_at(policy, open, edges.deciding(now + 1, m + 1)), expected);
+        assert_eq!(policy.staying(open, now, m), expected, "from {now} to {m}");
+        if open != 0 && now < m {
+            let nobody_closed = usize::from(expected == open);
+            seen[if expected == 0 { 2 } else { nobody_closed }] += 1;
+        }
+    }
+}
+
+/// Short lives and short cycles, and jumps of up to some thousands of minutes.
+#[test]
+fn minutes_that_stand_for_all_of_a_jump() {
+    let mut random = Random::new(8);
+    let (mut on_rotas, mut on_tables) = ([0; 3], [0; 3]);
+    for case in 0..12_000 {
+        let rota = match case % 3 {
+            0 => generate::small_rota(&mut random),
+            _ => generate::relay_rota(&mut random),
+        };
+        same_staying(&mut random, &rota, &Edges::of_rota(&rota), &mut on_rotas);
+        let table = match case % 4 {
+            0 => generate::small_table(&mut random),
+            1 => generate::relay_table(&mut random),
+            2 => generate::dense_table(&mut random),
+            _ => rewriting::table(&rota),
+        };
+        same_staying(&mut random, &table, &Edges::of_table(&table), &mut on_tables);
+    }
+    // Some of those who were open are closed, none of them is, or all are.
+    for seen in [on_rotas, on_tables] {
+        assert!(seen.iter().all(|&times| times > 1_000), "some, none, all: {seen:?}");
+    }
+}
+
+/// What a pause of the host does not matter for: two advances leave what one leaves.
+#[test]
+fn two_steps_close_as_many_as_one() {
+    let mut random = Random::new(9);
+    for case in 0..3_000 {
+        let rota = generate::relay_rota(&mut random);
+        let (table, edges) = (rewriting::table(&rota), Edges::of_rota(&rota));
+        let policy: &dyn Policy = if case % 2 == 0 { &rota } else { &table };
+        let open = reference::set::below(policy.users());
+        let now = generate::rota_minute(&mut random, &rota).min(END - 1);
+        let k = generate::jump(&mut random, &edges, now);
+        let m = generate::jump(&mut random, &edges, k);
+        assert_eq!(
+            policy.staying(policy.staying(open, now, k), k, m),
+            policy.staying(open, now, m)
+        );
+        assert_eq!(policy.staying(open, now, now), open);
+        assert_eq!(rota.staying(open, now, m), table.staying(open, now, m));
+    }
 }
 
 /// The rewriting from its definition alone: every minute of a field is looked at.

@@ -158,10 +158,107 @@ fn odd_states() {
     assert_eq!(serve(Lent::Rota(&[]), &mut State { now: END, open: 0 }, Call::Close(0)), Err(1));
     assert_eq!(serve(Lent::Table(&[]), &mut State { now: END, open: 0 }, Call::Close(0)), Err(21));
     assert_eq!(serve(Lent::Table(&bytes), &mut State::default(), Call::Close(0)), Err(22));
-    // Someone open who holds nothing: an advance to the same minute closes them.
+    // Someone open who holds nothing: an advance to the same minute judges no minute.
     let mut state = State { now: 4, open: 3 };
-    assert_eq!(serve(lent, &mut state, Call::Advance(4)), Ok(Reply::Closed(2)));
-    assert_eq!(state, State { now: 4, open: 0 });
+    assert_eq!(serve(lent, &mut state, Call::Advance(4)), Ok(Reply::Closed(0)));
+    assert_eq!(state, State { now: 4, open: 3 });
+}
+
+/// What an advance leaves open of everyone, on the rota and on its table.
+fn left(rota: &Rota, open: u64, now: u32, m: u32) -> u64 {
+    let (rota_bytes, table_bytes) = (rota.encode(), rewriting::table(rota).encode());
+    let [on_rota, on_table] = [Lent::Rota(&rota_bytes), Lent::Table(&table_bytes)].map(|lent| {
+        let mut state = State { now, open };
+        let reply = serve(lent, &mut state, Call::Advance(m));
+        assert_eq!(reply, Ok(Reply::Closed((open & !state.open).count_ones())));
+        assert_eq!(state.now, m);
+        state.open
+    });
+    assert_eq!(on_rota, on_table);
+    on_rota
+}
+
+#[test]
+fn a_session_does_not_sleep_through_a_closing() {
+    let (rota, table) = (data::small_rota(), data::small_table());
+    for lent in [Lent::Rota(&rota), Lent::Table(&table)] {
+        let mut state = State::default();
+        let mut call = |call| serve(lent, &mut state, call);
+        assert_eq!(call(Call::Advance(1)), Ok(Reply::Closed(0)));
+        assert_eq!(call(Call::Open(0)), Ok(Reply::Done));
+        // Volunteer 0 holds nothing at 4, 5, 8 and 9, and holds something again at 10 and 11.
+        assert_eq!(call(Call::Advance(11)), Ok(Reply::Closed(1)));
+        assert_eq!(state, State { now: 11, open: 0 });
+    }
+    // The old now is not judged: at 5 and at 9 nobody holds anything.
+    assert_eq!((left(&small(), 1, 5, 7), left(&small(), 1, 9, 13)), (1, 1));
+    assert_eq!((left(&small(), 1, 5, 8), left(&small(), 1, 9, 14)), (0, 0));
+    for now in [0, 4, 9, 40, END - 1] {
+        assert_eq!(left(&small(), 3, now, now), 3);
+    }
+}
+
+#[test]
+fn who_is_handed_on_without_a_gap_stays() {
+    let rota = |hours: [Hours; 2], permission_rows| Rota {
+        hours: hours.to_vec(),
+        users: 1,
+        permissions: 2,
+        roles: vec![HoursRef::Always; 2],
+        user_rows: (0..2).map(|role| Row::new(0, role, HoursRef::Numbered(role))).collect(),
+        permission_rows,
+        ..small()
+    };
+    let turns = |first, second| {
+        [Hours::new(0, END, &[(0, first)]), Hours::new(0, END, &[(second, 10 - second)])]
+    };
+    // From role to role, each with a permission of its own.
+    let by_role = || (0..2).map(|role| Row::new(role, role, HoursRef::Always)).collect::<Vec<_>>();
+    assert_eq!(left(&rota(turns(5, 5), by_role()), 1, 0, END - 1), 1);
+    assert_eq!(left(&rota(turns(5, 6), by_role()), 1, 0, END - 1), 0);
+    assert_eq!(left(&rota(turns(5, 6), by_role()), 1, 5, 14), 1);
+    // From permission to permission of one role.
+    let by_permission = |first, second| Rota {
+        user_rows: vec![Row::new(0, 0, HoursRef::Always)],
+        ..rota(
+            turns(first, second),
+            (0..2).map(|number| Row::new(number, 0, HoursRef::Numbered(number))).collect(),
+        )
+    };
+    assert_eq!(left(&by_permission(5, 5), 1, 0, END - 1), 1);
+    assert_eq!(left(&by_permission(4, 5), 1, 0, END - 1), 0);
+    // From era to era.
+    let by_dates = |from| [Hours::new(0, 100, &[(0, 10)]), Hours::new(from, END, &[(0, 10)])];
+    assert_eq!(left(&rota(by_dates(100), by_role()), 1, 0, END - 1), 1);
+    assert_eq!(left(&rota(by_dates(101), by_role()), 1, 0, END - 1), 0);
+    assert_eq!(left(&rota(by_dates(101), by_role()), 1, 100, END - 1), 1);
+    assert_eq!(left(&rota(by_dates(101), by_role()), 1, 99, 100), 0);
+}
+
+#[test]
+fn one_closed_minute() {
+    let open_but =
+        |hours: Hours, cycle| Rota { cycle, hours: vec![hours.clone(), hours], ..small() };
+    // In each cycle of a week, at its first minute, its last, or in between.
+    let week = 10_080;
+    for closed in [0, 5_000, week - 1] {
+        let (before, after) = ((0, closed), (closed + 1, week - closed - 1));
+        let pairs: Vec<_> = [before, after].into_iter().filter(|&(_, length)| length > 0).collect();
+        let rota = open_but(Hours::new(0, END, &pairs), week);
+        let closed = u32::from(closed);
+        for turn in [closed, closed + 10_080, closed + 400 * 10_080] {
+            assert_eq!(left(&rota, 1, turn, turn + 10_079), 1);
+            assert_eq!(left(&rota, 1, turn, turn + 10_080), 0);
+            assert_eq!(left(&rota, 1, turn + 1, END - 1), 0);
+        }
+    }
+    // The last minute of all, which is the only one with cycle 1 and these dates.
+    for cycle in [1, 10] {
+        let rota = open_but(Hours::new(0, END - 1, &[(0, cycle)]), cycle);
+        assert_eq!((left(&rota, 1, 0, END - 2), left(&rota, 1, END - 2, END - 1)), (1, 0));
+        let rota = open_but(Hours::new(END - 1, END, &[(0, cycle)]), cycle);
+        assert_eq!((left(&rota, 1, END - 2, END - 1), left(&rota, 1, END - 3, END - 1)), (1, 0));
+    }
 }
 
 #[test]

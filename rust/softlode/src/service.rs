@@ -43,8 +43,24 @@ impl Service {
         self.open.checked_shr(volunteer).is_some_and(|set| set & 1 == 1)
     }
 
-    /// Moves now to the minute and closes the sessions of those who hold no right then; gives how
-    /// many it closed. Or 33; 41 for a minute before now.
+    /// Moves now to the minute, and closes the session of everyone who holds no right at some minute
+    /// after the old now, up to and with the new one, and no other; gives how many it closed. Or
+    /// 33; 41 for a minute before now.
+    ///
+    /// So a host may pause for as long as it likes: nobody sleeps through a closing. Who passes from
+    /// right to right, or from role to role, without a minute between stays open. The old now is not
+    /// judged again, and an advance to it closes nobody.
+    ///
+    /// ```
+    /// use softlode::{Refusal, Rota, Service};
+    ///
+    /// let rota = Rota::read(include_bytes!("../../../data/small.rota"))?;
+    /// let mut service = Service { now: 1, open: 0 };
+    /// service.open(&rota, 0)?;
+    /// // Volunteer 0 holds a right at minute 11 again, and held none at minutes 4, 5, 8 and 9.
+    /// assert_eq!(service.advance(&rota, 11)?, 1);
+    /// # Ok::<(), Refusal>(())
+    /// ```
     pub fn advance<'a>(&mut self, lent: impl Into<Lent<'a>>, minute: u32) -> Result<u32, Refusal> {
         ffi::advance(self, lent.into(), minute).count()
     }

@@ -91,6 +91,28 @@ fn the_next_use_of_the_small_table() {
     }
 }
 
+/// On the small rota volunteer 0 holds no right at minutes 4, 5, 8, 9, 14, 15 and from 18 on.
+#[test]
+fn an_advance_judges_each_minute_that_it_passes() {
+    for lent in [Lent::Rota(SMALL), Lent::Table(SMALL_TABLE)] {
+        let mut service = Service::fresh();
+        assert_eq!(service.advance(lent, 1), Ok(0));
+        service.open(lent, 0).unwrap();
+        assert_eq!(service.advance(lent, 11), Ok(1));
+        assert_eq!(service, Service { now: 11, open: 0 });
+        // The old now is not judged, and nothing is in an advance to it.
+        for (now, minute, closed) in [(9, 13, 0), (8, 13, 1), (9, 14, 1), (5, 5, 0)] {
+            let mut service = Service { now, open: 1 };
+            assert_eq!(service.advance(lent, minute), Ok(closed), "from {now} to {minute}");
+            assert_eq!(service.is_open(0), closed == 0);
+        }
+        let mut service = Service { now: LAST_MINUTE, open: 3 };
+        assert_eq!(service.advance(lent, LAST_MINUTE), Ok(0));
+        let mut service = Service { now: LAST_MINUTE - 1, open: 3 };
+        assert_eq!(service.advance(lent, LAST_MINUTE), Ok(2));
+    }
+}
+
 #[test]
 fn a_refused_call_leaves_the_record() {
     for lent in [Lent::Rota(SMALL), Lent::Table(SMALL_TABLE)] {

@@ -12,6 +12,7 @@ pub mod policy;
 pub mod rewriting;
 pub mod rota;
 pub mod service;
+mod sweep;
 pub mod table;
 
 use reference::Refusal;

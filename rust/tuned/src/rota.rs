@@ -4,7 +4,7 @@ use reference::bytes::{u16_at, u32_at};
 use reference::policy::Policy;
 use reference::{CYCLE_LIMIT, END, Refusal};
 
-use crate::ensure;
+use crate::{ensure, sweep};
 
 /// Most pairs of all records together.
 const PAIR_LIMIT: usize = 256;
@@ -18,6 +18,12 @@ const ALWAYS: Held = 1 << 63;
 #[inline]
 fn holds(held: Held, reference: u8) -> bool {
     held >> (reference & 63) & 1 != 0
+}
+
+/// The hours that a byte refers to, alone.
+#[inline]
+fn only(reference: u8) -> Held {
+    1 << (reference & 63)
 }
 
 /// A user or a permission, a role, an hours reference.
@@ -68,6 +74,20 @@ impl<'a> Record<'a> {
         }
         let after = self.pairs.partition_point(|pair| offset(pair) <= phase);
         after > 0 && phase < end(&self.pairs[after - 1])
+    }
+
+    /// Whether it holds at `t`, and to before which minute that surely stays so.
+    fn holds_until(&self, cycle: u32, t: u32, phase: u32) -> (bool, u32) {
+        if t < self.begin {
+            return (false, self.begin);
+        }
+        if self.end <= t {
+            return (false, END);
+        }
+        let after = self.pairs.partition_point(|pair| offset(pair) <= phase);
+        let now = self.pairs[..after].last().map(end).filter(|&past| phase < past);
+        let next = self.pairs.get(after).map_or(cycle, offset);
+        (now.is_some(), self.end.min(t + now.unwrap_or(next) - phase))
     }
 
     /// Each pair's offset and offset + length.
@@ -196,6 +216,11 @@ impl Policy for Rota<'_> {
         Some(roles.trailing_zeros() as u8)
     }
 
+    fn staying(&self, open: u64, now: u32, m: u32) -> u64 {
+        let mut by_minute = ByMinute::new(self);
+        sweep::staying(self.cycle, open, now + 1, m + 1, |t, open| by_minute.held(t, open))
+    }
+
     fn holders(&self, t: u32) -> u64 {
         let held = self.held(t);
         let granting = self.enabled(held) & roles_of(self.permission_rows.iter(), held);
@@ -207,4 +232,115 @@ impl Policy for Rota<'_> {
             users | u64::from(grants & holds(held, hours)) << user
         })
     }
+}
+
+/// A rota laid out for many minutes, each later than the one before.
+struct ByMinute<'a> {
+    cycle: u32,
+    records: [Record<'a>; 32],
+    count: usize,
+    /// The hours that hold, and for each record to before which minute that is known.
+    held: Held,
+    known: [u32; 32],
+    /// For each role its hours reference, and the hours of its permissions.
+    roles: &'a [u8],
+    permitted: [Held; 32],
+    /// Role and hours of each user's rows, user by user; those for always come first.
+    user_rows: [[u8; 2]; 512],
+    /// Where the rows of each user begin, and where the last ones end.
+    starts: [u16; 65],
+}
+
+impl<'a> ByMinute<'a> {
+    fn new(rota: &Rota<'a>) -> ByMinute<'a> {
+        let mut records = rota.records();
+        let none = || Record { begin: 0, end: 0, pairs: &[] };
+        let mut all = ByMinute {
+            cycle: rota.cycle,
+            records: std::array::from_fn(|_| records.next().unwrap_or_else(none)),
+            count: rota.hours.into(),
+            held: ALWAYS,
+            known: [0; 32],
+            roles: rota.roles,
+            permitted: [0; 32],
+            user_rows: [[0; 2]; 512],
+            starts: [0; 65],
+        };
+        for &[_, role, hours] in rota.permission_rows {
+            all.permitted[usize::from(role)] |= only(hours);
+        }
+        for &[user, ..] in rota.user_rows {
+            all.starts[usize::from(user) + 1] += 1;
+        }
+        for user in 0..64 {
+            all.starts[user + 1] += all.starts[user];
+        }
+        let mut places = all.starts;
+        for is_always in [true, false] {
+            let rows = rota.user_rows.iter().filter(|row| (row[2] == 255) == is_always);
+            for &[user, role, hours] in rows {
+                let place = &mut places[usize::from(user)];
+                all.user_rows[usize::from(*place)] = [role, hours];
+                *place += 1;
+            }
+        }
+        all
+    }
+
+    /// Who of `open` holds a permission at `t`.
+    fn held(&mut self, t: u32, open: u64) -> sweep::Held {
+        self.look_up(t);
+        // For each role that grants something, records by which it does.
+        let (mut granting, mut by) = (0u32, [0; 32]);
+        for (role, (&hours, permitted)) in self.roles.iter().zip(self.permitted).enumerate() {
+            let permitted = permitted & self.held;
+            if permitted != 0 && holds(self.held, hours) {
+                granting |= 1 << role;
+                by[role] = one_of(only(hours)) | one_of(permitted);
+            }
+        }
+        let (mut users, mut rests_on) = (0, 0);
+        for user in members(open) {
+            let [first, past] = [self.starts[user], self.starts[user + 1]].map(usize::from);
+            let gives =
+                |&&[role, hours]: &&[u8; 2]| granting >> role & 1 != 0 && holds(self.held, hours);
+            if let Some(&[role, hours]) = self.user_rows[first..past].iter().find(gives) {
+                users |= 1 << user;
+                rests_on |= by[usize::from(role)] | one_of(only(hours));
+            }
+        }
+        let (mut until, mut era) = (END, END);
+        for record in members(rests_on) {
+            until = until.min(self.known[record]);
+            era = era.min(self.records[record].end);
+        }
+        sweep::Held { users, until, era }
+    }
+
+    /// Brings `held` up to date.
+    fn look_up(&mut self, t: u32) {
+        let phase = t % self.cycle;
+        for (i, known) in self.known[..self.count].iter_mut().enumerate().filter(|(_, u)| **u <= t)
+        {
+            let (holds, until) = self.records[i].holds_until(self.cycle, t, phase);
+            self.held = self.held & !(1 << i) | Held::from(holds) << i;
+            *known = until;
+        }
+    }
+}
+
+/// One of the records among some hours; none where these hold always.
+#[inline]
+fn one_of(hours: Held) -> Held {
+    if hours & ALWAYS != 0 { 0 } else { hours & hours.wrapping_neg() }
+}
+
+/// The members of a set, ascending.
+#[inline]
+fn members(mut set: u64) -> impl Iterator<Item = usize> {
+    std::iter::from_fn(move || {
+        let lowest = set.trailing_zeros();
+        set &= set.wrapping_sub(1);
+        (lowest < 64).then_some(lowest as usize)
+    })
 }

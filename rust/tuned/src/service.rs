@@ -24,8 +24,13 @@ fn step(policy: &impl Policy, state: &mut State, call: Call) -> Result<Reply, Re
         Call::Advance(m) => {
             ensure(m < END, 33)?;
             ensure(now <= m, 41)?;
-            // With nobody open there is nobody to judge.
-            let kept = if open == 0 { 0 } else { open & policy.holders(m) };
+            // With nobody open there is nobody to judge, and from now to now no minute.
+            let kept = match m - now {
+                0 => open,
+                _ if open == 0 => 0,
+                1 => open & policy.holders(m),
+                _ => policy.staying(open, now, m),
+            };
             *state = State { now: m, open: kept };
             Ok(Reply::Closed((open ^ kept).count_ones()))
         }

@@ -6,8 +6,8 @@ use reference::set::{below, has};
 use reference::table::Row;
 use reference::{CYCLE_LIMIT, END, Refusal};
 
-use crate::ensure;
 use crate::rota::Rota;
+use crate::{ensure, sweep};
 
 pub const HEADER_SIZE: usize = 16;
 
@@ -128,11 +128,7 @@ impl<'a> Table<'a> {
     /// are sorted and no two of them share a minute.
     fn enabled(&self, source: u8, t: u32, phase: u32) -> Option<&'a Entry> {
         let rows = self.rows_of(source);
-        // Rows of earlier eras, and those of the era of `t` that do not start after the phase.
-        let after = rows.partition_point(|row| {
-            let row = decode(row);
-            row.end <= t || (row.begin <= t && u32::from(row.offset) <= phase)
-        });
+        let after = rows.partition_point(|row| is_before(row, t, phase));
         let row = decode(rows[..after].last()?);
         let enables = t < row.end && phase < row.cell_end();
         enables.then(|| &self.entries[row.derived as usize])
@@ -143,6 +139,18 @@ impl<'a> Table<'a> {
         let phase = t % self.cycle;
         (0..self.roles).filter_map(move |source| self.enabled(source, t, phase))
     }
+}
+
+/// Whether a row is of an earlier era than `t`, or of that of `t` and does not start after the phase.
+#[inline]
+fn is_before(row: &RowBytes, t: u32, phase: u32) -> bool {
+    let row = decode(row);
+    row.end <= t || (row.begin <= t && u32::from(row.offset) <= phase)
+}
+
+#[inline]
+fn is_in_cell(row: &Row, phase: u32) -> bool {
+    u32::from(row.offset) <= phase && phase < row.cell_end()
 }
 
 #[inline]
@@ -225,5 +233,103 @@ impl Policy for Table<'_> {
 
     fn holders(&self, t: u32) -> u64 {
         self.all_enabled(t).fold(0, |holders, entry| holders | u64_at(entry, 1))
+    }
+
+    fn staying(&self, open: u64, now: u32, m: u32) -> u64 {
+        let mut spans: [Span; 32] = std::array::from_fn(|source| Span::of(self, source as u8));
+        sweep::staying(self.cycle, open, now + 1, m + 1, |t, open| {
+            self.held(&mut spans[..self.roles.into()], t, open)
+        })
+    }
+}
+
+/// What a source gives at a minute, for minutes of which each is later than the one before.
+#[derive(Clone, Copy)]
+struct Span<'a> {
+    rows: &'a [RowBytes],
+    /// How many of the rows come before the minute.
+    after: usize,
+    users: u64,
+    /// It gives them to before this minute.
+    until: u32,
+    /// The end of the row that gives them.
+    end: u32,
+}
+
+impl<'a> Span<'a> {
+    /// Nothing, and not even for the first minute.
+    fn of(table: &Table<'a>, source: u8) -> Span<'a> {
+        let rows = table.rows_of(source);
+        // Without a row it gives nothing ever.
+        let until = if rows.is_empty() { END } else { 0 };
+        Span { rows, after: 0, users: 0, until, end: END }
+    }
+
+    /// Goes on to `t`, which is not before `until`. Mostly the next row covers it, and then no
+    /// other row of the source does.
+    #[inline]
+    fn go_on(&mut self, table: &Table, t: u32, phase: u32) {
+        match self.rows.get(self.after).map(decode) {
+            Some(row) if row.begin <= t && t < row.end && is_in_cell(&row, phase) => {
+                self.after += 1;
+                self.give(table, &row, t, phase);
+            }
+            _ => self.search(table, t, phase),
+        }
+    }
+
+    /// The row before `after` covers `t`. Rows of the same derived role that touch go on with it.
+    #[inline]
+    fn give(&mut self, table: &Table, row: &Row, t: u32, phase: u32) {
+        let mut cell_end = row.cell_end();
+        while let Some(next) = self.rows.get(self.after).map(decode)
+            && (next.derived, next.begin) == (row.derived, row.begin)
+            && u32::from(next.offset) == cell_end
+        {
+            cell_end = next.cell_end();
+            self.after += 1;
+        }
+        self.users = u64_at(&table.entries[row.derived as usize], 1);
+        self.until = row.end.min(t + cell_end - phase);
+        self.end = row.end;
+    }
+
+    fn search(&mut self, table: &Table, t: u32, phase: u32) {
+        let (rows, near) = (self.rows, self.after);
+        self.after = sweep::partition_near(rows, near, |row| is_before(row, t, phase));
+        // The last one of the era of `t`, if there is one.
+        let last = rows[..self.after].last().map(decode).filter(|row| t < row.end);
+        if let Some(row) = last.filter(|row| phase < row.cell_end()) {
+            return self.give(table, &row, t, phase);
+        }
+        let turn = t + (table.cycle - phase);
+        self.users = 0;
+        self.until = match (last, rows.get(self.after).map(decode)) {
+            (_, Some(next)) if next.begin <= t => next.end.min(t + u32::from(next.offset) - phase),
+            (Some(last), _) => last.end.min(turn),
+            (None, next) => next.map_or(END, |next| next.begin),
+        };
+    }
+}
+
+impl Table<'_> {
+    /// Who of `open` holds a permission at `t`. Once everyone does, no further source matters.
+    fn held(&self, spans: &mut [Span], t: u32, open: u64) -> sweep::Held {
+        let phase = t % self.cycle;
+        let (mut missing, mut until, mut era) = (open, END, END);
+        for span in spans {
+            if span.until <= t {
+                span.go_on(self, t, phase);
+            }
+            if span.users & missing != 0 {
+                missing &= !span.users;
+                until = until.min(span.until);
+                era = era.min(span.end);
+                if missing == 0 {
+                    break;
+                }
+            }
+        }
+        sweep::Held { users: open & !missing, until, era }
     }
 }

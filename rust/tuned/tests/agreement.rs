@@ -2,14 +2,15 @@
 //! and cut, their rewriting byte for byte, lists of calls, and the calendar.
 
 use cases::case::{Case, Tally, cases};
-use cases::generate::{self, Edges, Sets};
+use cases::generate::{self, Sets};
 use cases::random::Random;
-use cases::{data, worst};
+use cases::{data, worst, worst::jumps};
+use reference::edges::Edges;
 use reference::policy::{Policy, question};
 use reference::rota::Rota;
 use reference::service::{Lent, State, serve};
-use reference::table::Table;
-use reference::{END, Refusal, calendar, rewriting};
+use reference::table::{Row, Table};
+use reference::{END, Refusal, calendar, rewriting, set};
 
 /// What was read, asked a few questions at such minutes and asked who holds anything.
 fn compare(
@@ -89,9 +90,10 @@ fn any_rota(random: &mut Random) -> Rota {
 }
 
 fn any_table(random: &mut Random) -> Table {
-    match random.below(4) {
+    match random.below(5) {
         0 => generate::table(random),
         1 => rewriting::table(&generate::small_rota(random)),
+        2 => generate::dense_table(random),
         _ => generate::small_table(random),
     }
 }
@@ -193,13 +195,138 @@ fn compare_rewritten(case: &mut Case, tally: &mut Tally, rota: &[u8]) {
     }
 }
 
+/// Who stays in a jump: jumps of all lengths, from where something changes or beside it.
+fn compare_staying(
+    case: &mut Case,
+    tally: &mut Tally,
+    bytes: &[u8],
+    quick: &impl Policy,
+    expected: &dyn Policy,
+    edges: &Edges,
+) {
+    let everyone = set::below(expected.users());
+    for _ in 0..8 {
+        let now = case.random.pick(&edges.spans) + case.random.below(2 * edges.cycle);
+        let now = now.saturating_sub(case.random.below(2 * edges.cycle)).min(END - 1);
+        let m = generate::jump(&mut case.random, edges, now);
+        for open in [everyone, case.random.bits() & everyone] {
+            let staying = expected.staying(open, now, m);
+            case.same(quick.staying(open, now, m), staying, bytes, (open, "from", now, "to", m));
+            tally.add(0);
+            tally.count_if(now == m, "at the same minute");
+            tally.count_if(staying != 0 && staying != open, "some stay");
+            tally.count_if(staying != 0 && m - now > 3 * edges.cycle, "long stays");
+            let shorter = edges.spans.windows(2).filter(|era| era[1] - era[0] < edges.cycle);
+            let within = shorter.filter(|era| now < era[0] && era[1] <= m).count() as u64;
+            tally.count_more(if staying != 0 { within } else { 0 }, "eras shorter than the cycle");
+            tally.count_if(staying != 0 && m == END - 1, "to the last minute");
+        }
+    }
+}
+
+const STAYS: [&str; 5] = [
+    "at the same minute",
+    "some stay",
+    "long stays",
+    "eras shorter than the cycle",
+    "to the last minute",
+];
+
+#[test]
+fn jumps_on_rotas() {
+    let mut tally = Tally::new("tuned jumps_on_rotas");
+    cases("tuned jumps_on_rotas", 12_000, |case| {
+        let rota = match case.random.below(8) {
+            0 => generate::small_rota(&mut case.random),
+            // Few of these, since the reference takes long over the largest.
+            1 if case.random.one_in(16) => generate::granting_rota(&mut case.random),
+            _ => generate::relay_rota(&mut case.random),
+        };
+        let (bytes, edges) = (rota.encode(), Edges::of_rota(&rota));
+        let quick = tuned::rota::Rota::read(&bytes).expect("accepted");
+        compare_staying(case, &mut tally, &bytes, &quick, &rota, &edges);
+    });
+    tally.reached([0]).also(&STAYS);
+}
+
+#[test]
+fn jumps_on_tables() {
+    let mut tally = Tally::new("tuned jumps_on_tables");
+    cases("tuned jumps_on_tables", 20_000, |case| {
+        let table = match case.random.below(8) {
+            0 => any_table(&mut case.random),
+            1 | 2 => rewriting::table(&generate::relay_rota(&mut case.random)),
+            3 | 4 => generate::relay_table(&mut case.random),
+            _ => generate::dense_table(&mut case.random),
+        };
+        let (bytes, edges) = (table.encode(), Edges::of_table(&table));
+        let quick = tuned::table::Table::read(&bytes).expect("accepted");
+        compare_staying(case, &mut tally, &bytes, &quick, &table, &edges);
+    });
+    tally.reached([0]).also(&STAYS);
+}
+
+/// Through all 400 years everyone stays, on the rota and on its table. The reference, which takes
+/// long, sees the last 50 of them.
+#[test]
+fn worst_rotas_to_jump_over() {
+    let case = Case::new("tuned worst_rotas_to_jump_over", 0);
+    for (name, rota) in jumps::rotas() {
+        let bytes = rota.encode();
+        let everyone = set::below(rota.users());
+        case.same(rota.staying(everyone, END / 8 * 7, END - 1), everyone, &[], name);
+        let quick = tuned::rota::Rota::read(&bytes).expect("accepted");
+        case.same(quick.staying(everyone, 0, END - 1), everyone, &[], name);
+        let table = rewriting::table(&rota).encode();
+        let quick = tuned::table::Table::read(&table).expect("accepted");
+        case.same(quick.staying(everyone, 0, END - 1), everyone, &[], (name, "its table"));
+    }
+}
+
+/// Everyone stays for a week, and where a row is left out, those leave who have it.
+#[test]
+fn worst_tables_to_jump_over() {
+    let mut case = Case::new("tuned worst_tables_to_jump_over", 0);
+    for (name, mut table) in jumps::tables() {
+        let bytes = table.encode();
+        assert!(bytes.len() <= 32_000_000, "{name} is too long");
+        let quick = tuned::table::Table::read(&bytes).expect("accepted");
+        case.same(quick.staying(u64::MAX, 0, 10_080), u64::MAX, &[], name);
+        let is_of_week = |row: &Row| row.end == END && (1..10_080).contains(&row.offset);
+        let rows: Vec<usize> =
+            (0..table.rows.len()).filter(|&i| is_of_week(&table.rows[i])).collect();
+        let row = table.rows.remove(case.random.pick(&rows));
+        let bytes = table.encode();
+        let quick = tuned::table::Table::read(&bytes).expect("accepted");
+        let left = !table.derived[row.derived as usize].users;
+        case.same(quick.staying(u64::MAX, 0, 10_080), left, &[], (name, row));
+    }
+    // One that the reference can go through, with a row left out here and there.
+    cases("tuned worst_tables_to_jump_over", 40, |case| {
+        let entries = case.random.pick(&[jumps::Entries::Few, jumps::Entries::Scattered]);
+        let cycle = case.random.between(1, 30) as u16;
+        let mut table = jumps::every_minute(cycle, case.random.one_in(2), entries, 50 * 30);
+        let most = case.random.pick(&[0, 100, 1_000]);
+        table.rows.retain(|_| most == 0 || !case.random.one_in(most));
+        let bytes = table.encode();
+        let quick = tuned::table::Table::read(&bytes).expect("accepted");
+        for m in [1, u32::from(cycle), 700, 1_499, 1_500, 1_600] {
+            let expected = table.staying(u64::MAX, 0, m);
+            case.same(quick.staying(u64::MAX, 0, m), expected, &bytes, m);
+        }
+    });
+}
+
 /// Lists of calls from the fresh state and from odd ones, on bytes that may be damaged.
 #[test]
 fn calls() {
     let mut tally = Tally::new("tuned calls");
-    cases("tuned calls", 6_000, |case| {
+    cases("tuned calls", 9_000, |case| {
         if case.random.one_in(2) {
-            let rota = generate::small_rota(&mut case.random);
+            let rota = match case.random.below(2) {
+                0 => generate::small_rota(&mut case.random),
+                _ => generate::relay_rota(&mut case.random),
+            };
             let bytes = match case.random.below(8) {
                 0 => generate::damaged_rota(&mut case.random, &rota),
                 _ => rota.encode(),
@@ -221,8 +348,9 @@ fn compare_calls(case: &mut Case, tally: &mut Tally, lent: Lent, near: &dyn Poli
     let (Lent::Rota(bytes) | Lent::Table(bytes)) = lent;
     for first in [State::default(), generate::state(&mut case.random, near.users(), &edges)] {
         let mut state = first;
+        let next = case.random.pick(&[generate::call, generate::jumping_call]);
         for _ in 0..15 {
-            let call = generate::call(&mut case.random, near, &edges, state);
+            let call = next(&mut case.random, near, &edges, state);
             let mut quick = state;
             let given = tuned::service::serve(lent, &mut quick, call);
             let before = state;

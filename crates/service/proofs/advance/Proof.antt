@@ -1,8 +1,9 @@
-use Rattle.service.proofs.LentReady.{ready}
-use Rattle.service.proofs.StepLaws.{bytes-refused, advance-refused, advance-moved}
-use Rattle.machine.proofs.CoreLaws.{advance-early}
-use Rattle.lent.proofs.LentLaws.{stopped, reached, own, holders-are}
 use mathlib.Core.Path.{refl, _∙_}
+use native.Mathlib.Omega.{arith}
+use Rattle.minutes.specs.Minutes.{E}
+use Rattle.lent.proofs.LentLaws.{stopped, reached, own, steady-are}
+use Rattle.service.proofs.LentReady.{ready, judged-minutes, judged-open}
+use Rattle.service.proofs.StepLaws.{bytes-refused, advance-refused, advance-moved}
 use borrow.Author.Needs.{needs}
 use Rattle.service.proofs.advance.Statement.{statement}
 use Rattle.service.proofs.advance.Tie as tie
@@ -25,8 +26,19 @@ judge-advance-requires c κs = ready (reached _ _ _ (c .before .before .before .
 returns : tie.Need-returns
 returns c = advance-refused (ready (reached _ _ _ (c .before .before .before .before .before .before .lend .ensures) (c .before .before .before .before .source .given .1)) (c .before .before .users .ensures) refl) _ _ _ (c .before .judge-advance .ensures) (c .if1 .taken)
 
-holders-at-requires : tie.Need-holders-at-requires
-holders-at-requires c κs = (own (reached _ _ _ (c .before .before .before .before .before .before .lend .ensures) (c .before .before .before .before .source .given .1)), advance-early _ _ _ _ (c .before .judge-advance .ensures) (c .if1 .left))
+add-steady : tie.Need-add-steady
+unfolding E
+add-steady c = omega (arith, judged-minutes _ _ _ _ (c .before .before .judge-advance .ensures) (c .before .if1 .left))
+
+add-steady-2 : tie.Need-add-steady-2
+unfolding E
+add-steady-2 c = omega (arith, judged-minutes _ _ _ _ (c .before .before .judge-advance .ensures) (c .before .if1 .left))
+
+steady-requires : tie.Need-steady-requires
+steady-requires c κs =
+    let w = reached _ _ _ (c .before .before .before .before .before .before .before .lend .ensures) (c .before .before .before .before .before .source .given .1) in
+    let j = judged-minutes _ _ _ _ (c .before .before .judge-advance .ensures) (c .before .if1 .left) in
+    (own w, j .0, j .1, judged-open _ _ _ _ (c .before .before .judge-advance .ensures) (c .before .if1 .left) w (c .before .before .before .users .ensures))
 
 moved-requires : tie.Need-moved-requires
 moved-requires c κs = search needs
@@ -36,9 +48,23 @@ returns-2 c = bytes-refused _ _ _ _ _ (stopped _ _ _ (c .before .before .before 
 
 returns-3 : tie.Need-returns-3
 returns-3 c =
-    let w = reached _ _ _ (c .before .before .before .before .before .before .before .before .lend .ensures) (c .before .before .before .before .before .before .source .given .1) in
+    let w = reached _ _ _ (c .before .before .before .before .before .before .before .before .before .lend .ensures) (c .before .before .before .before .before .before .before .source .given .1) in
     c .moved .ensures
-    ∙ advance-moved (ready w (c .before .before .before .before .users .ensures) refl) _ _ _ _ (c .before .before .before .judge-advance .ensures) (c .before .before .if1 .left) (holders-are w _ (c .before .holders-at .ensures))
+    ∙ advance-moved (ready w (c .before .before .before .before .before .users .ensures) refl) _ _ _ _ (c .before .before .before .before .judge-advance .ensures) (c .before .before .before .if1 .left) (steady-are w _ _ _ (c .before .steady .ensures))
 
 pub advance-spec : {M : Type 1} → statement M
-advance-spec = tie.close (tie.spec lend-requires enum-known-n enum-known-source users-requires judge-advance-requires returns holders-at-requires moved-requires returns-2 returns-3)
+advance-spec =
+    tie.close
+    (tie.spec
+    lend-requires
+    enum-known-n
+    enum-known-source
+    users-requires
+    judge-advance-requires
+    returns
+    add-steady
+    add-steady-2
+    steady-requires
+    moved-requires
+    returns-2
+    returns-3)

@@ -1,107 +1,97 @@
 //! States of a service, and calls that walk along the minutes at which an answer may change.
 
+use reference::edges::Edges;
 use reference::policy::Policy;
-use reference::rota::Rota;
 use reference::service::{Call, State};
-use reference::table::Table;
 use reference::{END, set};
 
 use super::number;
 use crate::random::Random;
 
-/// Where answers may change: at a begin or an end, and at an edge of a cell in each cycle.
-pub struct Edges {
-    cycle: u32,
-    /// Begins and ends, sorted.
-    spans: Vec<u32>,
-    /// Edges of cells.
-    cuts: Vec<u32>,
+/// The first minute after `now`, which is not over E, at which an answer may change;
+/// it may be E or later.
+pub fn next_edge(edges: &Edges, now: u32) -> u32 {
+    let turn = now - now % edges.cycle;
+    let here = edges.cuts.iter().map(|&cut| turn + cut).find(|&edge| edge > now);
+    next_span(edges, now).min(here.unwrap_or(turn + edges.cycle))
 }
 
-impl Edges {
-    fn new(cycle: u16, mut spans: Vec<u32>, mut cuts: Vec<u32>) -> Edges {
-        spans.extend([0, END]);
-        cuts.push(0);
-        for values in [&mut spans, &mut cuts] {
-            values.sort();
-            values.dedup();
+/// The first begin or end after `now`, or E.
+fn next_span(edges: &Edges, now: u32) -> u32 {
+    edges.spans.iter().copied().find(|&edge| edge > now).unwrap_or(END)
+}
+
+/// Every minute at which an answer may change in the first cycles after each begin and end,
+/// and in the last before, with the minutes beside it; at most E.
+pub fn edges_near_spans(edges: &Edges) -> Vec<u32> {
+    let mut minutes = Vec::new();
+    for &edge in &edges.spans {
+        let turn = edge - edge % edges.cycle;
+        for turn in [turn.saturating_sub(edges.cycle), turn, turn + edges.cycle] {
+            minutes.extend(edges.cuts.iter().map(|&cut| turn + cut));
         }
-        Edges { cycle: cycle.into(), spans, cuts }
+        minutes.push(edge);
     }
+    let beside = |&t: &u32| [t.saturating_sub(1), t, t + 1];
+    let mut minutes: Vec<u32> = minutes.iter().flat_map(beside).filter(|&t| t <= END).collect();
+    minutes.sort();
+    minutes.dedup();
+    minutes
+}
 
-    pub fn of_rota(rota: &Rota) -> Edges {
-        let pairs = rota.hours.iter().flat_map(|hours| &hours.pairs);
-        let cuts = pairs.flat_map(|pair| [u32::from(pair.offset), pair.end()]).collect();
-        let spans = rota.hours.iter().flat_map(|hours| [hours.begin, hours.end]).collect();
-        Edges::new(rota.cycle, spans, cuts)
+/// The minute, or one beside it.
+fn beside(random: &mut Random, t: u32) -> u32 {
+    match random.below(4) {
+        0 => t.saturating_sub(1),
+        1 => t + 1,
+        _ => t,
     }
+}
 
-    pub fn of_table(table: &Table) -> Edges {
-        let cuts = table.rows.iter().flat_map(|row| [u32::from(row.offset), row.cell_end()]);
-        let spans = table.rows.iter().flat_map(|row| [row.begin, row.end]);
-        Edges::new(table.cycle, spans.collect(), cuts.collect())
-    }
-
-    /// The first minute after `now`, which is not over E, at which an answer may change;
-    /// it may be E or later.
-    pub fn after(&self, now: u32) -> u32 {
-        let turn = now - now % self.cycle;
-        let span = self.spans.iter().copied().find(|&edge| edge > now).unwrap_or(END);
-        let here = self.cuts.iter().map(|&cut| turn + cut).find(|&edge| edge > now);
-        span.min(here.unwrap_or(turn + self.cycle))
-    }
-
-    /// Every minute at which an answer may change in the first cycles after each begin and end,
-    /// and in the last before, with the minutes beside it; at most E.
-    pub fn all_near_spans(&self) -> Vec<u32> {
-        let mut minutes = Vec::new();
-        for &edge in &self.spans {
-            let turn = edge - edge % self.cycle;
-            for turn in [turn.saturating_sub(self.cycle), turn, turn + self.cycle] {
-                minutes.extend(self.cuts.iter().map(|&cut| turn + cut));
-            }
-            minutes.push(edge);
+/// A minute to advance to: mostly soon, at an edge or beside it.
+fn advance(random: &mut Random, edges: &Edges, now: u32) -> u32 {
+    let now = now.min(END);
+    let random_minute = random.below(END);
+    match random.below(100) {
+        // Far: a list goes on from there, or ends.
+        0 => random.pick(&[END - 1, random_minute]),
+        1 => beside(random, next_span(edges, now)),
+        2 | 3 => random.pick(&[END, END + 1, u32::MAX]),
+        4..=7 => now.saturating_sub(random.between(1, edges.cycle)),
+        // Near.
+        8..=17 => now,
+        18..=29 => now + random.below(4),
+        30..=37 => now + random.below(edges.cycle),
+        38..=45 => {
+            let span = next_span(edges, now);
+            let is_near = span - now < 10 * edges.cycle;
+            beside(random, if is_near { span } else { next_edge(edges, now) })
         }
-        let beside = |&t: &u32| [t.saturating_sub(1), t, t + 1];
-        let mut minutes: Vec<u32> = minutes.iter().flat_map(beside).filter(|&t| t <= END).collect();
-        minutes.sort();
-        minutes.dedup();
-        minutes
-    }
-
-    /// A minute to advance to: mostly soon, at an edge or beside it.
-    fn advance(&self, random: &mut Random, now: u32) -> u32 {
-        let now = now.min(END);
-        let random_minute = random.below(END);
-        let beside = |random: &mut Random, t: u32| match random.below(4) {
-            0 => t.saturating_sub(1),
-            1 => t + 1,
-            _ => t,
-        };
-        let next_span =
-            |now: u32| self.spans.iter().copied().find(|&edge| edge > now).unwrap_or(END);
-        match random.below(100) {
-            // Far: a list goes on from there, or ends.
-            0 => random.pick(&[END - 1, random_minute]),
-            1 => beside(random, next_span(now)),
-            2 | 3 => random.pick(&[END, END + 1, u32::MAX]),
-            4..=7 => now.saturating_sub(random.between(1, self.cycle)),
-            // Near.
-            8..=17 => now,
-            18..=29 => now + random.below(4),
-            30..=37 => now + random.below(self.cycle),
-            38..=45 => {
-                let span = next_span(now);
-                let is_near = span - now < 10 * self.cycle;
-                beside(random, if is_near { span } else { self.after(now) })
-            }
-            46..=53 => {
-                let far = now + self.cycle * random.below(3);
-                beside(random, self.after(far.min(END)))
-            }
-            _ => beside(random, self.after(now)),
+        46..=53 => {
+            let far = now + edges.cycle * random.below(3);
+            beside(random, next_edge(edges, far.min(END)))
         }
+        _ => beside(random, next_edge(edges, now)),
     }
+}
+
+/// A minute from `now` on, which is below E, to jump to: the same one, the next, within a cycle,
+/// some cycles on, past one era or more, or the last minute.
+pub fn jump(random: &mut Random, edges: &Edges, now: u32) -> u32 {
+    let span = next_span(edges, now);
+    let turns = edges.cycle * random.between(1, 4);
+    let m = match random.below(14) {
+        0 => now,
+        1 | 2 => now + 1,
+        3 | 4 => now + random.between(1, edges.cycle),
+        5 | 6 => beside(random, now + turns),
+        7 | 8 => beside(random, next_edge(edges, now)),
+        9 => beside(random, span),
+        10 | 11 => beside(random, next_span(edges, span)),
+        12 => random.between(now, END - 1),
+        _ => END - 1,
+    };
+    m.clamp(now, END - 1)
 }
 
 /// One of a set, if it is not empty.
@@ -112,9 +102,27 @@ fn member(random: &mut Random, numbers: u64) -> Option<u32> {
 
 /// A call in a state: about as many that pass as are refused.
 pub fn call(random: &mut Random, policy: &dyn Policy, edges: &Edges, state: State) -> Call {
+    call_or(random, policy, state, |random| advance(random, edges, state.now))
+}
+
+/// The same, but an advance is a jump, and nearly all of them pass.
+pub fn jumping_call(random: &mut Random, policy: &dyn Policy, edges: &Edges, state: State) -> Call {
+    call_or(random, policy, state, |random| match state.now {
+        now @ ..END if !random.one_in(16) => jump(random, edges, now),
+        now => advance(random, edges, now),
+    })
+}
+
+/// An advance to the minute that is given, or another call.
+fn call_or(
+    random: &mut Random,
+    policy: &dyn Policy,
+    state: State,
+    to: impl FnOnce(&mut Random) -> u32,
+) -> Call {
     let any = number(random, policy.users());
     match random.below(10) {
-        0..=2 => Call::Advance(edges.advance(random, state.now)),
+        0..=2 => Call::Advance(to(random)),
         3..=5 => {
             // Most of the time someone who can open.
             let holders = if state.now < END { policy.holders(state.now) } else { 0 };
@@ -142,7 +150,7 @@ pub fn state(random: &mut Random, users: u32, edges: &Edges) -> State {
         3 => random.below(END),
         _ => {
             let edge = random.pick(&edges.spans);
-            edges.advance(random, edge)
+            advance(random, edges, edge)
         }
     };
     let below = set::below(users);

@@ -4,14 +4,16 @@
 mod calls;
 mod fine;
 mod hours;
+mod relay;
 mod rota;
 mod sized;
 mod table;
 mod weekly;
 
-pub use calls::{Edges, call, state};
+pub use calls::{call, edges_near_spans, jump, jumping_call, next_edge, state};
 pub use fine::{Sets, cut_hours, fine_rota, longest_first, most_sets_cuts, most_sets_rota};
 pub use hours::{hours, hours_fault, room};
+pub use relay::{dense_table, relay_rota, relay_table};
 pub use rota::{
     EDGE_SIZES, LIMITS, Sizes, damaged_rota, edge_sizes, granting_rota, rota, rota_minute, rota_of,
     small_rota, with_unused_hours,

@@ -2,12 +2,14 @@
 //! what a call gives and the state that it leaves.
 
 use cases::case::{Case, Tally};
-use cases::generate::{self, Edges};
+use cases::generate;
+use cases::random::Random;
+use reference::edges::Edges;
 use reference::policy::Policy;
 use reference::rota::Rota;
 use reference::service::{Call, State};
 use reference::table::Table;
-use reference::{END, Refusal, rewriting};
+use reference::{END, Refusal, rewriting, set};
 
 use super::table::table_by_hand;
 use crate::ffi::service::{Stepped, on_rota, on_table};
@@ -43,8 +45,9 @@ fn add(tally: &mut Tally, before: State, call: Call, given: &Stepped) {
         Call::Advance(_) => {
             tally.count("advances");
             tally.count_more(given.value.into(), "closed by them");
-            let at_now = given.value > 0 && given.now == before.now;
-            tally.count_if(at_now, "closing at the same minute");
+            let stayed = given.open.count_ones();
+            tally.count_more(stayed.into(), "staying open");
+            tally.count_if(stayed > 0 && given.now == before.now, "staying at the same minute");
         }
         Call::Open(_) => tally.count("opens"),
         Call::Close(_) => tally.count("closes"),
@@ -90,12 +93,13 @@ impl Run {
 
     /// Many calls, one after the other; fewer where the last minute is reached.
     fn calls(&mut self, case: &mut Case, tally: &mut Tally, both: &Both, count: u32) -> u32 {
+        let next = case.random.pick(&[generate::call, generate::call, generate::jumping_call]);
         let mut at_the_end = 0;
         for done in 0..count {
             if at_the_end == 12 {
                 return done;
             }
-            let call = generate::call(&mut case.random, both.rota(), &both.edges, self.machine);
+            let call = next(&mut case.random, both.rota(), &both.edges, self.machine);
             self.call(case, tally, both, call);
             at_the_end += u32::from(self.machine.now == END - 1);
         }
@@ -128,10 +132,11 @@ pub fn odd_calls(case: &mut Case, tally: &mut Tally, both: &Both, lists: u32, co
 /// A rota whose table is not too long to be read at every call.
 fn some_rota(case: &mut Case) -> Rota {
     loop {
-        let rota = match case.random.below(8) {
+        let rota = match case.random.below(10) {
             0 => generate::rota(&mut case.random),
             1..=4 => generate::granting_rota(&mut case.random),
-            _ => generate::small_rota(&mut case.random),
+            5..=7 => generate::small_rota(&mut case.random),
+            _ => generate::relay_rota(&mut case.random),
         };
         let fields = rewriting::eras(&rota).len() * rewriting::cells(&rota).len();
         if fields * rota.roles.len() < 2_000 {
@@ -151,6 +156,82 @@ pub fn odd_states(case: &mut Case, tally: &mut Tally) {
     odd_calls(case, tally, &both, 4, 5);
 }
 
+/// Everyone is open, at a minute where something changes or near it, and jumps.
+pub fn jumps(case: &mut Case, tally: &mut Tally) {
+    let both = Both::new(generate::relay_rota(&mut case.random));
+    for _ in 0..8 {
+        jump(case, tally, &both);
+    }
+}
+
+/// One jump of everyone, which gives what is given in two.
+pub fn jump(case: &mut Case, tally: &mut Tally, both: &Both) {
+    let now = near_a_span(&mut case.random, &both.edges);
+    let everyone = set::below(both.rota().users());
+    let m = generate::jump(&mut case.random, &both.edges, now);
+    let between = case.random.between(now, m);
+    in_one_and_in_two(case, tally, both, State { now, open: everyone }, between, m);
+}
+
+/// An advance to `m`, and in two steps: as many are closed in all, and the same are left.
+pub fn in_one_and_in_two(
+    case: &Case,
+    tally: &mut Tally,
+    both: &Both,
+    state: State,
+    between: u32,
+    m: u32,
+) -> Stepped {
+    let (mut once, mut twice) = (Run::from(state), Run::from(state));
+    let given = once.call(case, tally, both, Call::Advance(m));
+    let first = twice.call(case, tally, both, Call::Advance(between));
+    let second = twice.call(case, tally, both, Call::Advance(m));
+    let what = (state, "by", between, "to", m);
+    case.same(first.value + second.value, given.value, &both.rota_bytes, what);
+    case.same(second.state(), given.state(), &both.rota_bytes, what);
+    given
+}
+
+/// A minute within some cycles of a begin or an end.
+fn near_a_span(random: &mut Random, edges: &Edges) -> u32 {
+    let near = random.pick(&edges.spans) + random.below(2 * edges.cycle);
+    near.saturating_sub(random.below(2 * edges.cycle)).min(END - 1)
+}
+
+/// The same on tables whose roles' eras overlap freely.
+pub fn jumps_on_tables_made_by_hand(case: &mut Case, tally: &mut Tally) {
+    let table = match case.random.below(2) {
+        0 => generate::relay_table(&mut case.random),
+        _ => generate::dense_table(&mut case.random),
+    };
+    let (bytes, edges) = (table.encode(), Edges::of_table(&table));
+    let everyone = set::below(table.users());
+    let table = Ok(table);
+    for _ in 0..8 {
+        let now = near_a_span(&mut case.random, &edges);
+        let mut state = State { now, open: everyone };
+        for _ in 0..2 {
+            let call = Call::Advance(generate::jump(&mut case.random, &edges, state.now));
+            state = compare_on_table(case, tally, (&table, &bytes), state, call).state();
+        }
+    }
+}
+
+/// One call on a table, against the machine on that table.
+fn compare_on_table(
+    case: &Case,
+    tally: &mut Tally,
+    (table, bytes): (&Result<Table, Refusal>, &[u8]),
+    state: State,
+    call: Call,
+) -> Stepped {
+    let expected = expected::service::stepped(table, state, call);
+    add(tally, state, call, &expected);
+    let given = on_table(bytes, state, call);
+    case.same(given, expected, bytes, (call, "in", state));
+    given
+}
+
 /// Tables that no rewriting makes, against the machine on that table.
 pub fn table_made_by_hand(case: &mut Case, tally: &mut Tally) {
     let table = table_by_hand(&mut case.random);
@@ -165,11 +246,7 @@ pub fn table_made_by_hand(case: &mut Case, tally: &mut Tally) {
         }
         let policy = table.as_ref().expect("accepted");
         let call = generate::call(&mut case.random, policy, &edges, state);
-        let expected = expected::service::stepped(&table, state, call);
-        add(tally, state, call, &expected);
-        let given = on_table(&bytes, state, call);
-        case.same(given, expected, &bytes, (call, "in", state));
-        state = given.state();
+        state = compare_on_table(case, tally, (&table, &bytes), state, call).state();
     }
 }
 

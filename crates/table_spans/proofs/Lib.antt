@@ -1,4 +1,0 @@
-pub mod RoleLaws
-pub mod SpanLaws
-pub mod CaseLaws
-pub mod ThroughLaws
