@@ -39,15 +39,17 @@ pub fn judge_all(s: &[u8], cycle: u32, from: usize, h: usize) -> Walk
     Walk { code: 0, at }
 }
 
-// Whether a reference holds, by the set of the records that hold.
+// Whether a reference holds, by the set of the records that hold. It is looked up by its number, always by 63, which no record has. The remainder
+// changes neither: by it the compiler takes a row's byte as it is, and judging a row does not branch.
 pub fn ref_holds(r: HoursRef, set: u64, h: usize) -> bool
     requires { ⌜ (dangling h r ≡ false) × (h ≤ 32) ⌝ }
     ensures { λ b. ⌜ b ≡ refIn set r ⌝ }
 {
-    match r {
-        HoursRef::Always => true,
-        HoursRef::Numbered(k) => bitset::contains(set, k as u32),
-    }
+    let number = match r {
+        HoursRef::Always => 63,
+        HoursRef::Numbered(k) => k as u32,
+    };
+    bitset::contains(bitset::with(set, 63), number % 64)
 }
 
 // The numbers of the h records from `from` on that hold at minute t, of records that are not refused.

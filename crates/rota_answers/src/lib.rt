@@ -45,8 +45,9 @@ fn row_with(s: &[u8], h: usize, set: u64, at: usize, roles: u64) -> bool
     requires { ⌜ (at + 3 ≤ length (now s)) × (h ≤ 32) × (dangling h (rowAtByte (now s) at .hours) ≡ false) × (rowAtByte (now s) at .role < 64) ⌝ }
     ensures { λ r. ⌜ r ≡ (has roles (rowAtByte (now (s .entry)) at .role) && refIn set (rowAtByte (now (s .entry)) at .hours)) ⌝ }
 {
+    let on = row_in(s, h, set, at);
     if bitset::contains(roles, endian::read8(s, at + 1) as u32) {
-        row_in(s, h, set, at)
+        on
     } else {
         false
     }
@@ -96,7 +97,7 @@ fn roles_of(s: &[u8], h: usize, set: u64, at: usize, n: usize, top: usize, x: u3
     roles_from(s, h, set, at, n, top, x, k, roles)
 }
 
-// The roles that the n rows from `at` on give to anyone.
+// The roles that the n rows from `at` on give to anyone. A row is read before it is judged, so that it takes no branch.
 fn roles_assigned(s: &[u8], h: usize, set: u64, at: usize, n: usize, top: usize) -> u64
     requires { ⌜ RowsFine (now s) top at n × (h ≡ hoursOf (now s)) × (h ≤ 32) × (rolesOf (now s) ≤ 32) ⌝ }
     ensures { λ r. ⌜ r ≡ rolesAssigned (now (s .entry)) set at n ⌝ }
@@ -105,15 +106,16 @@ fn roles_assigned(s: &[u8], h: usize, set: u64, at: usize, n: usize, top: usize)
     let mut k = 0;
     while k < n {
         let i = at + 3 * k;
+        let role = endian::read8(s, i + 1) as u32;
         if row_in(s, h, set, i) {
-            given = bitset::with(given, endian::read8(s, i + 1) as u32);
+            given = bitset::with(given, role);
         }
         k += 1;
     }
     given
 }
 
-// The users to whom the n rows from `at` on give one of these roles.
+// The users to whom the n rows from `at` on give one of these roles. A row is read before it is judged, so that it takes no branch.
 fn users_with(s: &[u8], h: usize, set: u64, roles: u64, at: usize, n: usize) -> u64
     requires { ⌜ RowsFine (now s) (usersOf (now s)) at n × (h ≡ hoursOf (now s)) × (h ≤ 32) × (rolesOf (now s) ≤ 32) × (usersOf (now s) ≤ 64) ⌝ }
     ensures { λ r. ⌜ r ≡ usersWith (now (s .entry)) set roles at n ⌝ }
@@ -122,8 +124,9 @@ fn users_with(s: &[u8], h: usize, set: u64, roles: u64, at: usize, n: usize) -> 
     let mut k = 0;
     while k < n {
         let i = at + 3 * k;
+        let user = endian::read8(s, i) as u32;
         if row_with(s, h, set, i, roles) {
-            users = bitset::with(users, endian::read8(s, i) as u32);
+            users = bitset::with(users, user);
         }
         k += 1;
     }

@@ -1,8 +1,8 @@
-use Rattle.hours_reader.proofs.RefLaws.{numbered-below}
-use Rattle.hours.specs.Inside.{refIn}
+-- By the number of the reference.
+use mathlib.Core.Logic.{⊎-elim}
 use native.Mathlib.Omega.{arith}
-use mathlib.Core.Path.{sym, ap, _∙_}
 use borrow.Author.Needs.{needs}
+use Rattle.hours_reader.proofs.RefLaws.{always-in, numbered-in}
 use Rattle.hours_reader.proofs.ref_holds.Statement.{statement}
 use Rattle.hours_reader.proofs.ref_holds.Tie as tie
 
@@ -12,20 +12,23 @@ enum-told c = search needs
 enum-known-r : tie.Need-enum-known-r
 enum-known-r c = search needs
 
-cast-contains : tie.Need-cast-contains
-cast-contains c = search needs
+cast-number : tie.Need-cast-number
+cast-number c = search needs
+
+with-requires : tie.Need-with-requires
+with-requires c κs = search needs
 
 contains-requires : tie.Need-contains-requires
-contains-requires c κs = omega (arith, numbered-below _ _ _ (c .before .r .given .1) (c .before .before .before .pre .0))
+contains-requires c κs = search needs
 
 returns : tie.Need-returns
-unfolding refIn
-returns c = sym (ap (refIn (c .before .before .args .set)) (c .enum-told .given .1))
-
-returns-2 : tie.Need-returns-2
-unfolding refIn
-returns-2 c = c .contains .ensures ∙ sym (ap (refIn (c .before .before .before .before .args .set)) (c .before .before .r .given .1))
+returns c =
+    let p = c .before .before .before .before .pre in
+    ⊎-elim
+    (λ w. always-in _ _ _ _ _ _ (p .1) (c .before .before .with .ensures) (c .contains .ensures) (w .1 .given .1) (omega (arith, w .2)))
+    (λ w. numbered-in _ _ _ _ _ _ (p .1) (c .before .before .with .ensures) (c .contains .ensures) _ (w .1 .given .1) (p .0) (w .3))
+    (c .before .before .before .match .came)
 
 pub ref-holds-spec : {M : Type 1} → statement M
 ref-holds-spec =
-    tie.close (tie.spec enum-told enum-known-r cast-contains contains-requires returns returns-2)
+    tie.close (tie.spec enum-told enum-known-r cast-number with-requires contains-requires returns)

@@ -7,70 +7,58 @@ use Rattle.bitset.proofs.GatherLaws.{gather-none, gather-in, gather-out}
 use native.Mathlib.Nat.{le-antisymm}
 use native.Mathlib.Omega.{arith}
 use mathlib.Core.Logic.{⊎-elim}
-use mathlib.Core.Path.{_≡_, refl, _∙_}
+use mathlib.Core.Path.{_≡_, _∙_}
 use Prim.Native.Nat.{_≤_, _-_}
 use Rattle.rota_answers.proofs.roles_assigned.Statement.{statement}
 use Rattle.rota_answers.proofs.roles_assigned.Tie as tie
 
 abbrev Inv-loop : tie.InvT-loop
-Inv-loop s h set at n top roles₀ k₀ roles k = (k ≤ n) × (roles ≡ rolesAssigned s set at k)
+Inv-loop s h set at n top given₀ k₀ given k = (k ≤ n) × (given ≡ rolesAssigned s set at k)
 
 abbrev μ-loop : tie.MeasureT-loop
-μ-loop s h set at n top roles₀ k₀ roles k = n - k
+μ-loop s h set at n top given₀ k₀ given k = n - k
 
--- src/lib.rt:295:5
 loop-holds : tie.Need-loop-holds Inv-loop μ-loop
 unfolding rolesAssigned
 loop-holds c = let a = c .before .args in let p = c .before .pre in (search needs, gather-none (rolesOf (a .s .now)) (omega (arith, p .3)) (λ i. rowIn (a .s .now) (a .set) (a .at) i) (roleAt (a .s .now) (a .at)))
 
--- src/lib.rt:296:22
 mul-i : tie.Need-mul-i Inv-loop μ-loop
 mul-i c = omega (arith, row-within _ _ _ _ (c .before .before .before .pre .0) _ (c .loop-test .taken))
 
--- src/lib.rt:296:17
 add-i : tie.Need-add-i Inv-loop μ-loop
 add-i c = omega (arith, row-within _ _ _ _ (c .before .before .before .pre .0) _ (c .loop-test .taken))
 
--- src/lib.rt:297:12
-row-in-requires : tie.Need-row-in-requires Inv-loop μ-loop
-row-in-requires c κs = let p = c .before .before .before .pre in (row-within _ _ _ _ (p .0) _ (c .loop-test .taken), p .2, row-refers _ _ _ _ (p .0) _ (c .loop-test .taken) _ (p .1))
-
--- src/lib.rt:298:58
 add-read8 : tie.Need-add-read8 Inv-loop μ-loop
-add-read8 c = omega (arith, row-within _ _ _ _ (c .before .before .before .before .before .pre .0) _ (c .before .before .loop-test .taken))
+add-read8 c = omega (arith, row-within _ _ _ _ (c .before .before .before .pre .0) _ (c .loop-test .taken))
 
--- src/lib.rt:298:41
 read8-requires : tie.Need-read8-requires Inv-loop μ-loop
-read8-requires c κs = omega (arith, row-within _ _ _ _ (c .before .before .before .before .before .pre .0) _ (c .before .before .loop-test .taken))
+read8-requires c κs = omega (arith, row-within _ _ _ _ (c .before .before .before .pre .0) _ (c .loop-test .taken))
 
--- src/lib.rt:298:41
-cast-with : tie.Need-cast-with Inv-loop μ-loop
-cast-with c = omega (arith, c .read8 .ensures .1)
+cast-role : tie.Need-cast-role Inv-loop μ-loop
+cast-role c = omega (arith, c .read8 .ensures .1)
 
--- src/lib.rt:298:13
+row-in-requires : tie.Need-row-in-requires Inv-loop μ-loop
+row-in-requires c κs = let p = c .before .before .before .before .pre in let l = c .before .loop-test .taken in (row-within _ _ _ _ (p .0) _ l, p .2, row-refers _ _ _ _ (p .0) _ l _ (p .1))
+
 with-requires : tie.Need-with-requires Inv-loop μ-loop
-with-requires c κs = let p = c .before .before .before .before .before .before .pre in omega (arith, c .read8 .ensures .0, p .3, p .0 .each _ (c .before .before .before .loop-test .taken) .role)
+with-requires c κs = let p = c .before .before .before .before .before .before .pre in omega (arith, c .before .before .read8 .ensures .0, p .3, p .0 .each _ (c .before .before .before .loop-test .taken) .role)
 
--- src/lib.rt:300:9
 add-k : tie.Need-add-k Inv-loop μ-loop
 add-k c = search needs
 
--- src/lib.rt:295:5
 loop-less : tie.Need-loop-less Inv-loop μ-loop
 loop-less c = search needs
 
--- src/lib.rt:295:5
 loop-again : tie.Need-loop-again Inv-loop μ-loop
 unfolding rolesAssigned
-loop-again c = let a = c .before .before .before .before .before .args in let p = c .before .before .before .before .before .pre in (
+loop-again c = let a = c .before .before .before .before .before .before .args in let p = c .before .before .before .before .before .before .pre in (
   omega arith,
   ⊎-elim
-      (λ w. gather-in (rolesOf (a .s .now)) (omega (arith, p .3)) (λ i. rowIn (a .s .now) (a .set) (a .at) i) (roleAt (a .s .now) (a .at)) _ _ _ _ _ (c .before .before .before .loop .inv .1) (c .before .row-in .ensures) (w .1 .ensures .0) (omega (arith, w .1 .ensures .0, p .0 .each _ (c .before .before .loop-test .taken) .role)) (w .0 .taken) (w .3 ∙ w .2 .ensures))
-      (λ w. gather-out (rolesOf (a .s .now)) (omega (arith, p .3)) (λ i. rowIn (a .s .now) (a .set) (a .at) i) (roleAt (a .s .now) (a .at)) _ _ _ _ _ (c .before .before .before .loop .inv .1) (c .before .row-in .ensures) refl (w .0 .left) (w .1))
+      (λ w. gather-in (rolesOf (a .s .now)) (omega (arith, p .3)) (λ i. rowIn (a .s .now) (a .set) (a .at) i) (roleAt (a .s .now) (a .at)) _ _ _ _ _ (c .before .before .before .before .loop .inv .1) (c .before .row-in .ensures) (c .before .before .read8 .ensures .0) (omega (arith, c .before .before .read8 .ensures .0, p .0 .each _ (c .before .before .before .loop-test .taken) .role)) (w .0 .taken) (w .2 ∙ w .1 .ensures))
+      (λ w. gather-out (rolesOf (a .s .now)) (omega (arith, p .3)) (λ i. rowIn (a .s .now) (a .set) (a .at) i) (roleAt (a .s .now) (a .at)) _ _ _ _ _ (c .before .before .before .before .loop .inv .1) (c .before .row-in .ensures) (c .before .before .read8 .ensures .0) (w .0 .left) (w .1))
       (c .if1 .came),
 )
 
--- src/lib.rt:289:1
 returns : tie.Need-returns Inv-loop μ-loop
 returns c = rw (← (le-antisymm (c .before .loop .inv .0) (c .loop-test .left))) (c .before .loop .inv .1)
 
@@ -83,10 +71,10 @@ roles-assigned-spec =
     loop-holds
     mul-i
     add-i
-    row-in-requires
     add-read8
     read8-requires
-    cast-with
+    cast-role
+    row-in-requires
     with-requires
     add-k
     loop-less

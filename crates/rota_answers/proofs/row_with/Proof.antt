@@ -26,20 +26,20 @@ row-in-requires c κs = search needs
 
 -- src/lib.rt:260:1
 returns : tie.Need-returns
-returns c = let a = c .before .before .before .before .before .args in with-yes (a .s .now) (a .at) _ _ _ _ _ (c .before .before .before .read8 .ensures .0) (c .before .before .contains .ensures) (c .before .if1 .taken) (c .row-in .ensures)
+returns c = let a = c .before .before .before .before .before .args in with-yes (a .s .now) (a .at) _ _ _ _ _ (c .before .before .read8 .ensures .0) (c .before .contains .ensures) (c .if1 .taken) (c .before .before .before .row-in .ensures)
 
 -- src/lib.rt:260:1
 returns-2 : tie.Need-returns-2
-returns-2 c = let a = c .before .before .before .before .args in with-no (a .s .now) (a .at) (a .set) _ _ _ false (c .before .before .read8 .ensures .0) (c .before .contains .ensures) (c .if1 .left)
+returns-2 c = let a = c .before .before .before .before .before .args in with-no (a .s .now) (a .at) (a .set) _ _ _ false (c .before .before .read8 .ensures .0) (c .before .contains .ensures) (c .if1 .left)
 
 pub row-with-spec : {M : Type 1} → statement M
 row-with-spec =
     tie.close
     (tie.spec
+    row-in-requires
     add-read8
     read8-requires
     cast-contains
     contains-requires
-    row-in-requires
     returns
     returns-2)
