@@ -54,7 +54,24 @@ fn one_cycle(
     }
 }
 
-// Of `among`, those who hold a permission at each minute from a to before b. One minute is what an advance mostly passes, and needs no sweep.
+// Of `among`, those who hold a permission at each minute from a to before b, cycle by cycle. The first looks ahead by `reach`.
+fn cycles(s: &[u8], source: Source, a: u32, b: u32, among: u64, reach: u32) -> u64
+    requires { ⌜ Lends (kindOf source) (now s) source × (a < b) × (b ≤ E) × (among < 2 ^ usersOf source) × (0 < reach) × (reach ≤ E + E) ⌝ }
+    ensures { λ r. ⌜ r ≡ steadyOver (policyAs (kindOf source) (now (s .entry))) among a b ⌝ }
+{
+    let mut places = [18446744073709551615; 32];
+    let mut t = one_cycle(s, source, &mut places, a, b, among, reach);
+    while t.next < b {
+        if t.set == 0 {
+            return 0;
+        }
+        t = one_cycle(s, source, &mut places, t.next, b, t.set, t.reach);
+    }
+    t.set
+}
+
+// Of `among`, those who hold a permission at each minute from a to before b. One minute is what an advance mostly passes, and needs no sweep. The sweep
+// is called from two places, so that it is compiled by itself and the calls around it stay short.
 pub fn steady(s: &[u8], source: Source, a: u32, b: u32, among: u64) -> u64
     requires { ⌜ Lends (kindOf source) (now s) source × (a ≤ b) × (b ≤ E) × (among < 2 ^ usersOf source) ⌝ }
     ensures { λ r. ⌜ r ≡ steadyOver (policyAs (kindOf source) (now (s .entry))) among a b ⌝ }
@@ -65,13 +82,9 @@ pub fn steady(s: &[u8], source: Source, a: u32, b: u32, among: u64) -> u64
     if b - a == 1 {
         return lent::held_once(s, source, a, among);
     }
-    let mut places = [18446744073709551615; 32];
-    let mut t = one_cycle(s, source, &mut places, a, b, among, lent::cycle(source));
-    while t.next < b {
-        if t.set == 0 {
-            return 0;
-        }
-        t = one_cycle(s, source, &mut places, t.next, b, t.set, t.reach);
+    let cycle = lent::cycle(source);
+    if b - a < cycle {
+        return cycles(s, source, a, b, among, b - a);
     }
-    t.set
+    cycles(s, source, a, b, among, cycle)
 }

@@ -1,87 +1,63 @@
--- No minute, one minute, or cycle by cycle: then those who hold a permission to before the next one are left.
-use Prim.Native.Nat.{_+_, _-_, _≤_, _<_}
-use mathlib.Core.Path.{_≡_}
-use native.Mathlib.Nat.{le-antisymm}
+-- No minute, one minute, or more.
 use native.Mathlib.Omega.{arith}
-use borrow.Author.Needs.{needs}
 use Rattle.minutes.specs.Minutes.{E}
-use Rattle.policy.specs.Steady.{steadyOver}
-use Rattle.policy.proofs.SteadyLaws.{steady-one, steady-all, steady-more, steady-over}
-use Rattle.lent.specs.Lent.{policyAs}
-use Rattle.lent.specs.Inside.{kindOf}
+use Rattle.policy.proofs.SteadyLaws.{steady-one, steady-all}
 use Rattle.lent.proofs.LentLaws.{cycle-fine}
-use Rattle.sweep.proofs.LentSwept.{few-users, among-small, stays-small}
+use Rattle.sweep.proofs.LentSwept.{few-users, among-small}
+use borrow.Author.Needs.{needs}
 use Rattle.sweep.proofs.steady.Statement.{statement}
 use Rattle.sweep.proofs.steady.Tie as tie
 
-abbrev Inv-loop : tie.InvT-loop
-Inv-loop s source a b among places₀ t₀ places t =
-    (a < t .next) × (t .next ≤ b) × (t .set ≡ steadyOver (policyAs (kindOf source) s) among a (t .next)) × (0 < t .reach) × (t .reach ≤ E + E)
-
-abbrev μ-loop : tie.MeasureT-loop
-μ-loop s source a b among places₀ t₀ places t = b - t .next
-
-returns : tie.Need-returns Inv-loop μ-loop
+returns : tie.Need-returns
 returns c = let p = c .before .before .pre in steady-all _ _ _ _ (omega (arith, c .if1 .taken)) (among-small (p .0) (p .3))
 
-sub-if2 : tie.Need-sub-if2 Inv-loop μ-loop
-sub-if2 c = c .before .before .pre .1
+sub-if2 : tie.Need-sub-if2
+sub-if2 c = search needs
 
-held-once-requires : tie.Need-held-once-requires Inv-loop μ-loop
-held-once-requires c κs = let p = c .before .before .before .pre in (p .0, omega (arith, c .if2 .taken, p .2))
+held-once-requires : tie.Need-held-once-requires
+held-once-requires c κs = search needs
 
-returns-2 : tie.Need-returns-2 Inv-loop μ-loop
+returns-2 : tie.Need-returns-2
 returns-2 c = let p = c .before .before .before .before .pre in steady-one _ (few-users (p .0)) _ _ _ (omega (arith, c .before .if2 .taken, p .1)) (c .held-once .ensures)
 
-cycle-requires : tie.Need-cycle-requires Inv-loop μ-loop
+cycle-requires : tie.Need-cycle-requires
 cycle-requires c κs = search needs
 
-one-cycle-requires : tie.Need-one-cycle-requires Inv-loop μ-loop
+sub-if3 : tie.Need-sub-if3
+sub-if3 c = search needs
+
+sub-cycles : tie.Need-sub-cycles
+sub-cycles c = search needs
+
+cycles-requires : tie.Need-cycles-requires
 unfolding E
-one-cycle-requires c κs =
+cycles-requires c κs = search needs
+
+returns-3 : tie.Need-returns-3
+returns-3 c = search needs
+
+cycles-requires-2 : tie.Need-cycles-requires-2
+unfolding E
+cycles-requires-2 c κs =
     let p = c .before .before .before .before .before .pre in
     let z = cycle-fine (p .0) in
-    (p .0, omega (arith, c .before .before .before .if1 .left, p .1), p .2, p .3, omega (arith, z .0, c .cycle .ensures), omega (arith, z .1, c .cycle .ensures))
+    (p .0, omega (arith, c .before .before .before .if1 .left, p .1), p .2, p .3, omega (arith, z .0, c .before .cycle .ensures), omega (arith, z .1, c .before .cycle .ensures))
 
-loop-holds : tie.Need-loop-holds Inv-loop μ-loop
-loop-holds c = let z = c .one-cycle .ensures in (z .1, z .2, z .0, z .3, z .4)
-
-returns-3 : tie.Need-returns-3 Inv-loop μ-loop
-returns-3 c = let i = c .before .before .before .before .loop .inv in steady-over _ _ _ _ _ (omega (arith, i .0)) (i .1) (i .2) (c .if4 .taken)
-
-one-cycle-requires-2 : tie.Need-one-cycle-requires-2 Inv-loop μ-loop
-one-cycle-requires-2 c κs =
-    let i = c .before .before .before .before .before .loop .inv in
-    let p = c .before .before .before .before .before .before .before .before .before .before .before .before .pre in
-    (p .0, c .before .before .before .if3 .taken, p .2, stays-small (p .0) _ _ _ (i .2), i .3, i .4)
-
-loop-less : tie.Need-loop-less Inv-loop μ-loop
-loop-less c = let z = c .one-cycle2 .ensures in omega (arith, z .1, z .2)
-
-loop-again : tie.Need-loop-again Inv-loop μ-loop
-loop-again c =
-    let i = c .before .before .before .before .before .before .loop .inv in
-    let z = c .one-cycle2 .ensures in
-    (omega (arith, i .0, z .1), z .2, steady-more _ _ _ _ _ (omega (arith, i .0)) (omega (arith, z .1)) (i .2) (z .0), z .3, z .4)
-
-returns-4 : tie.Need-returns-4 Inv-loop μ-loop
-returns-4 c = let i = c .before .before .loop .inv in rw (le-antisymm (i .1) (c .if3 .left)) at (i .2)
+returns-4 : tie.Need-returns-4
+returns-4 c = search needs
 
 pub steady-spec : {M : Type 1} → statement M
 steady-spec =
     tie.close
     (tie.spec
-    Inv-loop
-    μ-loop
     returns
     sub-if2
     held-once-requires
     returns-2
     cycle-requires
-    one-cycle-requires
-    loop-holds
+    sub-if3
+    sub-cycles
+    cycles-requires
     returns-3
-    one-cycle-requires-2
-    loop-less
-    loop-again
+    cycles-requires-2
     returns-4)
