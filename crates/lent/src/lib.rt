@@ -2,7 +2,6 @@
 ghost use mathlib.Core.Path.{_≡_};
 ghost use Prim.Native.Nat.{_<_};
 ghost use Rattle.ground.specs.Outcome.{given};
-ghost use Rattle.bitset.specs.Sets.{intersection};
 ghost use Rattle.minutes.specs.Minutes.{E};
 ghost use Rattle.policy.specs.Policy.{answerGiven, holdersAt};
 ghost use Rattle.policy.specs.Held.{HeldAmong};
@@ -106,18 +105,7 @@ pub fn holders_at(s: &[u8], source: Source, t: u32) -> u64
 {
     match source {
         Source::Rota(l) => rota_answers::holders_in(s, l, t),
-        Source::Table(n) => table_answers::holders_in(s, n, t),
-    }
-}
-
-// Of `among`, those who hold a permission at a minute below E.
-pub fn held_once(s: &[u8], source: Source, t: u32, among: u64) -> u64
-    requires { ⌜ Lends (kindOf source) (now s) source × (t < E) ⌝ }
-    ensures { λ r. ⌜ r ≡ intersection among (holdersAt (policyAs (kindOf source) (now (s .entry))) t) ⌝ }
-{
-    match source {
-        Source::Rota(l) => bitset::both(among, rota_answers::holders_in(s, l, t)),
-        Source::Table(n) => table_held::held_once(s, n, t, among),
+        Source::Table(n) => table_held::holders_at(s, n, t),
     }
 }
 

@@ -3,7 +3,7 @@
 --     steady-join, steady-more      two stretches, one after the other
 --     steady-over                   nobody is left
 --     steady-small                  the set by its members
---     steady-one                    one minute
+--     steady-one, steady-everyone   one minute
 --     holder                        whether one is among those who hold a permission
 --     swept-none, swept-more        a sweep, step by step
 --     swept-all                     where it has passed a whole cycle, what goes by the cycle is known
@@ -21,7 +21,7 @@ use lib.Pow.{pow-pos}
 use Rattle.ground.proofs.BoolLaws.{and-yes, and-both, eq-ext, clash, lt-or-le}
 use Rattle.ground.proofs.SearchLaws.{any-no, any-none-of}
 use Rattle.bitset.specs.Sets.{has, setOf, intersection}
-use Rattle.bitset.proofs.SetLaws.{setOf-has, setOf-lt, has-below, has-none, intersection-of}
+use Rattle.bitset.proofs.SetLaws.{setOf-has, setOf-lt, has-below, has-none, has-not, intersection-of}
 use Rattle.minutes.specs.Lasting.{Lasting}
 use Rattle.minutes.proofs.LastingLaws.{lasting-at, lasting-shorter, lasting-on, lasting-turned}
 use Rattle.policy.specs.Policy.{Policy, holdsAny, holdersAt}
@@ -110,6 +110,14 @@ module _ (π : Policy) where
 
       both : (u : ℕ) → u < π .users → has x u ≡ (has among u && holdsAny π a u)
       both u l = ap (λ (z : ℕ). has z u) set-is ∙ has-below (π .users) _ u l
+
+  -- of everyone, those who hold a permission at a minute
+  pub steady-everyone : π .users ≤ 64 → (a : ℕ) {x : ℕ} → x ≡ steadyOver π 18446744073709551615 a (a + 1) → x ≡ holdersAt π a
+  unfolding holdersAt
+  steady-everyone few a e =
+      e ∙ sym (steady-is 18446744073709551615 a (a + 1) _ (setOf-lt (π .users) (holdsAny π a))
+      (λ u l h. (has-not 64 0 u (pow-pos 64) (omega arith) ∙ ap not (has-none u), λ v y z. let w : v ≡ a = omega arith in rw w (sym (has-below (π .users) (holdsAny π a) u l) ∙ h)))
+      (λ u l h g. has-below (π .users) (holdsAny π a) u l ∙ g a (le-refl a) (omega arith)))
 
   -- ---- a sweep from x on that has come to y: `stays` are left of `among`, and what was seen goes by the cycle to before e
   pub record Swept (c among x y e stays : ℕ) : Type 0 where

@@ -38,7 +38,9 @@ pub fn open(kind: Kind, s: &[u8], service: Service, u: u32) -> Changed
             if bad != 0 {
                 return Changed::Refused(bad, service);
             }
-            machine::opened(users, lent::holders_at(s, source, service.now), service, u)
+            let now = service.now;
+            let holders = sweep::steady(s, source, now, now + 1, 18446744073709551615);
+            machine::opened(users, holders, service, u)
         }
     }
 }

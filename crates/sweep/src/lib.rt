@@ -1,6 +1,7 @@
 // Who holds a permission at each minute of a stretch, by a lent rota or table. The sweep goes from one minute at which somebody may cease to hold one to
 // the next; one cycle is enough as far as nothing that was seen ends for good.
 ghost use mathlib.Core.Path.{_≡_};
+ghost use mathlib.Core.Logic.{_⊎_};
 ghost use Prim.Native.Nat.{_+_, _^_, _≤_, _<_};
 ghost use Rattle.minutes.specs.Minutes.{E};
 ghost use Rattle.policy.specs.Steady.{steadyOver};
@@ -54,13 +55,21 @@ fn one_cycle(
     }
 }
 
-// Of `among`, those who hold a permission at each minute from a to before b, cycle by cycle. The first looks ahead by `reach`.
-fn cycles(s: &[u8], source: Source, a: u32, b: u32, among: u64, reach: u32) -> u64
-    requires { ⌜ Lends (kindOf source) (now s) source × (a < b) × (b ≤ E) × (among < 2 ^ usersOf source) × (0 < reach) × (reach ≤ E + E) ⌝ }
+// Of `among`, those who hold a permission at each minute from a to before b. One minute is what an advance mostly passes, and an open asks for: it needs
+// no sweep, and of it anyone may be asked.
+pub fn steady(s: &[u8], source: Source, a: u32, b: u32, among: u64) -> u64
+    requires { ⌜ Lends (kindOf source) (now s) source × (a ≤ b) × (b ≤ E) × ((among < 2 ^ usersOf source) ⊎ (b ≡ a + 1)) ⌝ }
     ensures { λ r. ⌜ r ≡ steadyOver (policyAs (kindOf source) (now (s .entry))) among a b ⌝ }
 {
+    if b - a == 1 {
+        return bitset::both(among, lent::holders_at(s, source, a));
+    }
     let mut places = [18446744073709551615; 32];
-    let mut t = one_cycle(s, source, &mut places, a, b, among, reach);
+    let mut t = Turn {
+        set: among,
+        next: a,
+        reach: lent::cycle(source),
+    };
     while t.next < b {
         if t.set == 0 {
             return 0;
@@ -68,23 +77,4 @@ fn cycles(s: &[u8], source: Source, a: u32, b: u32, among: u64, reach: u32) -> u
         t = one_cycle(s, source, &mut places, t.next, b, t.set, t.reach);
     }
     t.set
-}
-
-// Of `among`, those who hold a permission at each minute from a to before b. One minute is what an advance mostly passes, and needs no sweep. The sweep
-// is called from two places, so that it is compiled by itself and the calls around it stay short.
-pub fn steady(s: &[u8], source: Source, a: u32, b: u32, among: u64) -> u64
-    requires { ⌜ Lends (kindOf source) (now s) source × (a ≤ b) × (b ≤ E) × (among < 2 ^ usersOf source) ⌝ }
-    ensures { λ r. ⌜ r ≡ steadyOver (policyAs (kindOf source) (now (s .entry))) among a b ⌝ }
-{
-    if a == b {
-        return among;
-    }
-    if b - a == 1 {
-        return lent::held_once(s, source, a, among);
-    }
-    let cycle = lent::cycle(source);
-    if b - a < cycle {
-        return cycles(s, source, a, b, among, b - a);
-    }
-    cycles(s, source, a, b, among, cycle)
 }

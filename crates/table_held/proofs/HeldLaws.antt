@@ -3,6 +3,7 @@
 --     reach-row, reach-on                     how far one row reaches, and the row that goes on where it stops
 --     held-none, held-same, held-more         no role yet, and one role more: its row adds nobody, or some
 --     held-all, held-everyone                 all roles, or as many as it takes
+--     of-everyone                             those of everyone
 -- Assumes nothing.
 use Prim.Native.Nat.{ℕ, _+_, _-_, _*_, _%_, _^_, _≤_, _<_, min}
 use mathlib.Core.Path.{_≡_, refl, sym, _∙_, ap, subst}
@@ -19,7 +20,7 @@ use Rattle.ground.proofs.BoolLaws.{and-yes, and-both, and-three, and-all, or-ye
 use Rattle.ground.proofs.SearchLaws.{any-out, any-stop}
 use Rattle.endian.specs.Numbers.{u32At, u64At}
 use Rattle.bitset.specs.Sets.{has, union, intersection, difference}
-use Rattle.bitset.proofs.SetLaws.{has-none, has-below, has-union, has-intersection, has-difference, intersection-lt, ext, setOf-lt}
+use Rattle.bitset.proofs.SetLaws.{has-none, has-below, has-union, has-intersection, has-difference, has-not, intersection-lt, ext, setOf-lt, fits-64}
 use Rattle.minutes.specs.Minutes.{E, Window, covers}
 use Rattle.minutes.proofs.WindowLaws.{In, covers-in, in-covers}
 use Rattle.minutes.proofs.LastingLaws.{lasting-at, lasting-shorter, lasting-on, phase-on, phase-turned}
@@ -46,6 +47,12 @@ not-lost x y u l e h = go (has y u) refl
     go : (b : Bool) → has y u ≡ b → b ≡ true
     go true w = refl
     go false w = clash (has (difference x y) u) (has-difference x y u l ∙ and-both _ _ h (ap not w)) (ap (λ (z : ℕ). has z u) e ∙ has-none u)
+
+-- the set of all numbers below 64 takes nobody away
+pub of-everyone : (x : ℕ) {y : ℕ} → x < 2 ^ 64 → y ≡ intersection 18446744073709551615 x → y ≡ x
+of-everyone x l e =
+    e ∙ ext 64 _ x (intersection-lt 18446744073709551615 x) l
+    (λ u k. has-intersection 18446744073709551615 x u k ∙ ap (λ (b : Bool). b && has x u) (has-not 64 0 u (pow-pos 64) k ∙ ap not (has-none u)))
 
 -- the tests of the code: a row whose entry begins at e, and whose users are y
 pub went-on : (s : List ℕ) (at t stop era gain : ℕ) (w : declared.Window) → windowGiven w ≡ rowAtByte s at .window → w .offset ≡ stop → w .begin ≤ t
@@ -241,6 +248,10 @@ module _ (s : List ℕ) (n : Counts) (o : Opened s n) where
 
   pub cycle-some : 0 < n .cycle
   cycle-some = omega (arith, counts-are s n (o .counts) .cycle, table-fine s (o .clear) .header .cycle-some)
+
+  pub holders-few : (t : ℕ) → holdersAt (policyOf (tableOf s)) t < 2 ^ 64
+  unfolding holdersAt tableOf
+  holders-few t = fits-64 (usersOf s) _ (table-fine s (o .clear) .header .users-most)
 
   pub cycle-few : cycleOf s ≤ 40320
   cycle-few = table-fine s (o .clear) .header .cycle-most

@@ -4,7 +4,6 @@ ghost use mathlib.Core.Path.{_≡_};
 ghost use mathlib.Core.Bool.{true};
 ghost use Prim.Native.Nat.{_+_, _%_, _≤_, _<_};
 ghost use Rattle.minutes.specs.Minutes.{E};
-ghost use Rattle.bitset.specs.Sets.{intersection};
 ghost use Rattle.policy.specs.Policy.{holdersAt};
 ghost use Rattle.policy.specs.Held.{HeldAmong};
 ghost use Rattle.table.specs.Table.{policyOf};
@@ -199,15 +198,15 @@ pub fn held_near(
     h
 }
 
-// Of `among`, those who hold a permission at minute t by itself. A few rows are quicker passed than searched.
-pub fn held_once(s: &[u8], n: Counts, t: u32, among: u64) -> u64
+// Everyone who holds a permission at minute t. A few rows are quicker passed than searched.
+pub fn holders_at(s: &[u8], n: Counts, t: u32) -> u64
     requires { ⌜ Opened (now s) n × (t < E) ⌝ }
-    ensures { λ r. ⌜ r ≡ intersection among (holdersAt (policyOf (tableOf (now (s .entry)))) t) ⌝ }
+    ensures { λ r. ⌜ r ≡ holdersAt (policyOf (tableOf (now (s .entry)))) t ⌝ }
 {
     if n.rows < 64 {
-        return bitset::both(among, table_answers::holders_in(s, n, t));
+        return table_answers::holders_in(s, n, t);
     }
     let mut places = [18446744073709551615; 32];
-    let h = held_near(s, n, &mut places, t, among, t + 1);
+    let h = held_near(s, n, &mut places, t, 18446744073709551615, t + 1);
     h.set
 }

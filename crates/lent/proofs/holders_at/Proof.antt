@@ -15,14 +15,16 @@ holders-in-requires c κs =
 enum-known-source-2 : tie.Need-enum-known-source-2
 enum-known-source-2 c = search needs
 
-holders-in-requires-2 : tie.Need-holders-in-requires-2
-holders-in-requires-2 c κs = as-table (c .before .before .before .before .pre .0) (c .before .source2 .given .1)
+holders-at-requires : tie.Need-holders-at-requires
+holders-at-requires c κs =
+    let p = c .before .before .before .before .pre in
+    (as-table (p .0) (c .before .source2 .given .1), p .1)
 
 returns : tie.Need-returns
 returns c = c .holders-in .ensures ∙ holders-as _ _ (c .before .before .source .given .1)
 
 returns-2 : tie.Need-returns-2
-returns-2 c = c .holders-in2 .ensures ∙ holders-as _ _ (c .before .before .source2 .given .1)
+returns-2 c = c .holders-at .ensures ∙ holders-as _ _ (c .before .before .source2 .given .1)
 
 pub holders-at-spec : {M : Type 1} → statement M
-holders-at-spec = tie.close (tie.spec enum-known-source holders-in-requires enum-known-source-2 holders-in-requires-2 returns returns-2)
+holders-at-spec = tie.close (tie.spec enum-known-source holders-in-requires enum-known-source-2 holders-at-requires returns returns-2)

@@ -1,4 +1,5 @@
 use mathlib.Core.Path.{refl, _∙_}
+use mathlib.Core.Logic.{inl}
 use native.Mathlib.Omega.{arith}
 use Rattle.minutes.specs.Minutes.{E}
 use Rattle.lent.proofs.LentLaws.{stopped, reached, own, steady-are}
@@ -38,7 +39,7 @@ steady-requires : tie.Need-steady-requires
 steady-requires c κs =
     let w = reached _ _ _ (c .before .before .before .before .before .before .before .lend .ensures) (c .before .before .before .before .before .source .given .1) in
     let j = judged-minutes _ _ _ _ (c .before .before .judge-advance .ensures) (c .before .if1 .left) in
-    (own w, j .0, j .1, judged-open _ _ _ _ (c .before .before .judge-advance .ensures) (c .before .if1 .left) w (c .before .before .before .users .ensures))
+    (own w, j .0, j .1, inl (judged-open _ _ _ _ (c .before .before .judge-advance .ensures) (c .before .if1 .left) w (c .before .before .before .users .ensures)))
 
 moved-requires : tie.Need-moved-requires
 moved-requires c κs = search needs

@@ -1,8 +1,11 @@
-use Rattle.service.proofs.LentReady.{ready}
-use Rattle.service.proofs.StepLaws.{bytes-refused, open-refused, open-opened}
-use Rattle.machine.proofs.CoreLaws.{state-early}
-use Rattle.lent.proofs.LentLaws.{stopped, reached, own, holders-are}
 use mathlib.Core.Path.{refl, _∙_}
+use mathlib.Core.Logic.{inr}
+use native.Mathlib.Omega.{arith}
+use Rattle.minutes.specs.Minutes.{E}
+use Rattle.machine.proofs.CoreLaws.{state-early}
+use Rattle.lent.proofs.LentLaws.{stopped, reached, own}
+use Rattle.service.proofs.LentReady.{ready, everyone}
+use Rattle.service.proofs.StepLaws.{bytes-refused, open-refused, open-opened}
 use borrow.Author.Needs.{needs}
 use Rattle.service.proofs.open.Statement.{statement}
 use Rattle.service.proofs.open.Tie as tie
@@ -25,8 +28,14 @@ judge-state-requires c κs = ready (reached _ _ _ (c .before .before .before .be
 returns : tie.Need-returns
 returns c = open-refused (ready (reached _ _ _ (c .before .before .before .before .before .before .lend .ensures) (c .before .before .before .before .source .given .1)) (c .before .before .users .ensures) refl) _ _ _ (c .before .judge-state .ensures) (c .if1 .taken)
 
-holders-at-requires : tie.Need-holders-at-requires
-holders-at-requires c κs = (own (reached _ _ _ (c .before .before .before .before .before .before .lend .ensures) (c .before .before .before .before .source .given .1)), state-early _ _ _ (c .before .judge-state .ensures) (c .if1 .left))
+add-steady : tie.Need-add-steady
+unfolding E
+add-steady c = omega (arith, state-early _ _ _ (c .before .judge-state .ensures) (c .if1 .left))
+
+steady-requires : tie.Need-steady-requires
+steady-requires c κs =
+    let early = state-early _ _ _ (c .before .judge-state .ensures) (c .if1 .left) in
+    (own (reached _ _ _ (c .before .before .before .before .before .before .lend .ensures) (c .before .before .before .before .source .given .1)), omega arith, omega (arith, early), inr refl)
 
 opened-requires : tie.Need-opened-requires
 opened-requires c κs = ready (reached _ _ _ (c .before .before .before .before .before .before .before .lend .ensures) (c .before .before .before .before .before .source .given .1)) (c .before .before .before .users .ensures) refl .few
@@ -38,7 +47,20 @@ returns-3 : tie.Need-returns-3
 returns-3 c =
     let w = reached _ _ _ (c .before .before .before .before .before .before .before .before .lend .ensures) (c .before .before .before .before .before .before .source .given .1) in
     c .opened .ensures
-    ∙ open-opened (ready w (c .before .before .before .before .users .ensures) refl) _ _ _ _ (c .before .before .before .judge-state .ensures) (c .before .before .if1 .left) (holders-are w _ (c .before .holders-at .ensures))
+    ∙ open-opened (ready w (c .before .before .before .before .users .ensures) refl) _ _ _ _ (c .before .before .before .judge-state .ensures) (c .before .before .if1 .left) (everyone w _ (c .before .steady .ensures))
 
 pub open-spec : {M : Type 1} → statement M
-open-spec = tie.close (tie.spec lend-requires enum-known-n enum-known-source users-requires judge-state-requires returns holders-at-requires opened-requires returns-2 returns-3)
+open-spec =
+    tie.close
+    (tie.spec
+    lend-requires
+    enum-known-n
+    enum-known-source
+    users-requires
+    judge-state-requires
+    returns
+    add-steady
+    steady-requires
+    opened-requires
+    returns-2
+    returns-3)
