@@ -143,8 +143,8 @@ module _ (s : List ℕ) (n : Counts) (o : Opened s n) (r t : ℕ) where
       }
 
   module _ (a b m k : ℕ) (w : Narrowed s r t a b) (l : m < b) (g : StageIs s r t m k) where
-    pub narrow-up : k ≡ 0 → Narrowed s r t (m + 1) b
-    narrow-up e =
+    pub narrow-up : k ≡ 0 → (next : ℕ) → next ≡ m + 1 → Narrowed s r t next b
+    narrow-up e next en =
         record {
           ordered = omega arith;
           most = w .most;

@@ -56,9 +56,9 @@ loop-again c =
     let m = i .1 (c .before .before .before .before .loop-test .taken) in
     let o = c .before .before .before .before .before .before .before .before .before .pre .0 in
     ⊎-elim
-    (λ w. rw (w .3, w .4, w .5) (
-      narrow-up _ _ o _ _ _ _ _ _ (i .0) (m .1) (c .before .before .before .stage .ensures) (w .0 .taken),
-      λ l. (w .2 .ensures .0, w .2 .ensures .1 l),
+    (λ w. rw (w .4, w .5) (
+      narrow-up _ _ o _ _ _ _ _ _ (i .0) (m .1) (c .before .before .before .stage .ensures) (w .0 .taken) _ (omega (arith, w .3)),
+      λ l. (omega (arith, w .3, w .2 .ensures .0), w .2 .ensures .1 (omega (arith, w .3, l))),
     ))
     (λ w. rw (w .2, w .3, w .4) (
       narrow-down _ _ o _ _ _ _ _ _ (i .0) (m .1) (c .before .before .before .stage .ensures) (m .0) (omega (arith, w .0 .left, c .before .before .if2 .left)),

@@ -1,6 +1,7 @@
 -- By the source role, then by the dates, then by the phase.
 use Rattle.table_answers.proofs.AnswerLaws.{row-inside}
 use Rattle.rows.proofs.StageLaws.{source-read, window-read, stage-lower, stage-higher, stage-early, stage-over, stage-off, stage-on, stage-past}
+use native.Mathlib.Omega.{arith}
 use borrow.Author.Needs.{needs}
 use Rattle.rows.proofs.stage.Statement.{statement}
 use Rattle.rows.proofs.stage.Tie as tie
@@ -42,7 +43,7 @@ cast-if5 : tie.Need-cast-if5
 cast-if5 c = search needs
 
 returns-5 : tie.Need-returns-5
-returns-5 c = stage-off _ _ _ _ _ (source-read _ _ (c .before .before .before .before .before .before .before .before .before .before .before .before .pre .0) _ _ (c .before .before .before .before .before .before .before .before .before .row-role .ensures)) (c .before .before .before .before .before .before .before .before .if1 .left) (c .before .before .before .before .before .before .before .if2 .left) _ (window-read _ _ (c .before .before .before .before .before .before .before .before .before .before .before .before .pre .0) _ _ (c .before .before .before .before .before .before .read-window .ensures)) (c .before .before .before .before .if3 .left) (c .before .before .if4 .left) _ (c .before .before .before .before .before .before .before .before .before .before .before .before .pre .2) (c .if5 .taken)
+returns-5 c = stage-off _ _ _ _ _ (source-read _ _ (c .before .before .before .before .before .before .before .before .before .before .before .before .pre .0) _ _ (c .before .before .before .before .before .before .before .before .before .row-role .ensures)) (c .before .before .before .before .before .before .before .before .if1 .left) (c .before .before .before .before .before .before .before .if2 .left) _ (window-read _ _ (c .before .before .before .before .before .before .before .before .before .before .before .before .pre .0) _ _ (c .before .before .before .before .before .before .read-window .ensures)) (c .before .before .before .before .if3 .left) (omega (arith, c .before .before .if4 .left)) _ (c .before .before .before .before .before .before .before .before .before .before .before .before .pre .2) (c .if5 .taken)
 
 cast-if6 : tie.Need-cast-if6
 cast-if6 c = search needs
@@ -54,10 +55,10 @@ cast-if6-2 : tie.Need-cast-if6-2
 cast-if6-2 c = search needs
 
 returns-6 : tie.Need-returns-6
-returns-6 c = stage-on _ _ _ _ _ (source-read _ _ (c .before .before .before .before .before .before .before .before .before .before .before .before .before .before .before .pre .0) _ _ (c .before .before .before .before .before .before .before .before .before .before .before .before .row-role .ensures)) (c .before .before .before .before .before .before .before .before .before .before .before .if1 .left) (c .before .before .before .before .before .before .before .before .before .before .if2 .left) _ (window-read _ _ (c .before .before .before .before .before .before .before .before .before .before .before .before .before .before .before .pre .0) _ _ (c .before .before .before .before .before .before .before .before .before .read-window .ensures)) (c .before .before .before .before .before .before .before .if3 .left) (c .before .before .before .before .before .if4 .left) _ (c .before .before .before .before .before .before .before .before .before .before .before .before .before .before .before .pre .2) (c .before .before .before .if5 .left) (c .if6 .taken)
+returns-6 c = stage-on _ _ _ _ _ (source-read _ _ (c .before .before .before .before .before .before .before .before .before .before .before .before .before .before .before .pre .0) _ _ (c .before .before .before .before .before .before .before .before .before .before .before .before .row-role .ensures)) (c .before .before .before .before .before .before .before .before .before .before .before .if1 .left) (c .before .before .before .before .before .before .before .before .before .before .if2 .left) _ (window-read _ _ (c .before .before .before .before .before .before .before .before .before .before .before .before .before .before .before .pre .0) _ _ (c .before .before .before .before .before .before .before .before .before .read-window .ensures)) (c .before .before .before .before .before .before .before .if3 .left) (omega (arith, c .before .before .before .before .before .if4 .left)) _ (c .before .before .before .before .before .before .before .before .before .before .before .before .before .before .before .pre .2) (c .before .before .before .if5 .left) (c .if6 .taken)
 
 returns-7 : tie.Need-returns-7
-returns-7 c = stage-past _ _ _ _ _ (source-read _ _ (c .before .before .before .before .before .before .before .before .before .before .before .before .before .before .before .pre .0) _ _ (c .before .before .before .before .before .before .before .before .before .before .before .before .row-role .ensures)) (c .before .before .before .before .before .before .before .before .before .before .before .if1 .left) (c .before .before .before .before .before .before .before .before .before .before .if2 .left) _ (window-read _ _ (c .before .before .before .before .before .before .before .before .before .before .before .before .before .before .before .pre .0) _ _ (c .before .before .before .before .before .before .before .before .before .read-window .ensures)) (c .before .before .before .before .before .before .before .if3 .left) (c .before .before .before .before .before .if4 .left) _ (c .before .before .before .before .before .before .before .before .before .before .before .before .before .before .before .pre .2) (c .before .before .before .if5 .left) (c .if6 .left)
+returns-7 c = stage-past _ _ _ _ _ (source-read _ _ (c .before .before .before .before .before .before .before .before .before .before .before .before .before .before .before .pre .0) _ _ (c .before .before .before .before .before .before .before .before .before .before .before .before .row-role .ensures)) (c .before .before .before .before .before .before .before .before .before .before .before .if1 .left) (c .before .before .before .before .before .before .before .before .before .before .if2 .left) _ (window-read _ _ (c .before .before .before .before .before .before .before .before .before .before .before .before .before .before .before .pre .0) _ _ (c .before .before .before .before .before .before .before .before .before .read-window .ensures)) (c .before .before .before .before .before .before .before .if3 .left) (omega (arith, c .before .before .before .before .before .if4 .left)) _ (c .before .before .before .before .before .before .before .before .before .before .before .before .before .before .before .pre .2) (c .before .before .before .if5 .left) (c .if6 .left)
 
 pub stage-spec : {M : Type 1} → statement M
 stage-spec =

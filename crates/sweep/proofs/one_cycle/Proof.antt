@@ -75,7 +75,7 @@ loop-again c =
     let q = c .before .before .before .before .before .before .before .earlier .ensures in
     let e = c .before .earlier3 .ensures in
     let a = c .earlier4 .ensures in (
-      swept-more _ (i .0) (few-users (c .before .before .before .before .before .before .before .before .before .before .before .pre .0)) (omega (arith, y, q)) h e,
+      swept-more _ (i .0) (few-users (c .before .before .before .before .before .before .before .before .before .before .before .pre .0)) (omega (arith, y, q)) h (omega (arith, e)),
       omega (arith, e, i .1),
       omega (arith, a, e, h .after, h .longer, y, q),
       omega (arith, a, e, h .era-most),

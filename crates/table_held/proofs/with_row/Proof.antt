@@ -84,7 +84,7 @@ returns-2 c =
     held-more _ (c .before .before .before .before .before .before .before .before .before .before .before .before .before .before .before .pre .0 .clear) _ _ _ _ _ _ (c .before .before .before .before .before .before .before .before .before .before .before .before .before .before .before .pre .5) _ _ _ _ _ _ _ (c .before .before .before .before .follow .ensures)
     (λ u m h. gain-among _ _ (c .before .before .before .before .before .before .before .before .before .before .before .before .before .before .before .pre .0) _ _ _ _ _ (c .before .before .before .before .before .before .before .before .before .before .before .before .before .before .before .pre .1) (c .before .before .before .before .before .before .before .before .before .before .before .before .before .before .before .pre .2) _ _ _ _ (c .before .before .before .before .before .before .before .before .before .entry-place .ensures) (c .before .before .before .before .before .before .before .before .read64 .ensures) (c .before .before .before .before .before .before .before .both .ensures) (c .before .before .before .before .before .before .lost .ensures) u m h .0)
     (gain-all _ _ (c .before .before .before .before .before .before .before .before .before .before .before .before .before .before .before .pre .0) _ _ _ _ _ (c .before .before .before .before .before .before .before .before .before .before .before .before .before .before .before .pre .1) (c .before .before .before .before .before .before .before .before .before .before .before .before .before .before .before .pre .2) _ _ _ _ (c .before .before .before .before .before .before .before .before .before .entry-place .ensures) (c .before .before .before .before .before .before .before .before .read64 .ensures) (c .before .before .before .before .before .before .before .both .ensures) (c .before .before .before .before .before .before .lost .ensures))
-    (row-dates _ _ (c .before .before .before .before .before .before .before .before .before .before .before .before .before .before .before .pre .0) _ _ _ _ _ (c .before .before .before .before .before .before .before .before .before .before .before .before .before .before .before .pre .1) (c .before .before .before .before .before .before .before .before .before .before .before .before .before .before .before .pre .2) _ _ _ _ (c .before .before .before .before .before .before .before .before .before .entry-place .ensures) (c .before .before .before .before .before .before .before .before .read64 .ensures) (c .before .before .before .before .before .before .before .both .ensures) (c .before .before .before .before .before .before .lost .ensures) _ (c .before .before .before .before .before .before .before .before .before .before .before .before .before .before .before .pre .4) _ (c .before .before .before .before .before .before .before .before .before .before .before .before .read-window .ensures)) (c .before .before .either .ensures) (c .before .earlier .ensures) (c .earlier2 .ensures)
+    (row-dates _ _ (c .before .before .before .before .before .before .before .before .before .before .before .before .before .before .before .pre .0) _ _ _ _ _ (c .before .before .before .before .before .before .before .before .before .before .before .before .before .before .before .pre .1) (c .before .before .before .before .before .before .before .before .before .before .before .before .before .before .before .pre .2) _ _ _ _ (c .before .before .before .before .before .before .before .before .before .entry-place .ensures) (c .before .before .before .before .before .before .before .before .read64 .ensures) (c .before .before .before .before .before .before .before .both .ensures) (c .before .before .before .before .before .before .lost .ensures) _ (c .before .before .before .before .before .before .before .before .before .before .before .before .before .before .before .pre .4) _ (c .before .before .before .before .before .before .before .before .before .before .before .before .read-window .ensures)) (c .before .before .either .ensures) (omega (arith, c .before .earlier .ensures)) (omega (arith, c .earlier2 .ensures))
 
 pub with-row-spec : {M : Type 1} → statement M
 with-row-spec =
