@@ -141,7 +141,14 @@ softlode_next softlode_table_next(const uint8_t *table, size_t length, uint32_t 
  */
 softlode_written softlode_rewrite(const uint8_t *rota, size_t length, uint8_t *area, size_t size);
 
-/* Moves now to the minute, and closes the sessions of those who hold no right then: `value` counts them. After the bytes' refusals: 40; 33; 41. */
+/*
+ * Moves now to the minute, and closes the session of everyone who holds no right at some minute after the old now, up to and with the new one,
+ * and no other: `value` counts them. So a host may pause: nobody sleeps through a closing. Who passes from right to right, or from role to
+ * role, without a minute between stays. The old now is not judged again, and an advance to it closes nobody. After the bytes' refusals: 40; 33; 41.
+ *
+ * On a rota, and on the table of a rota, 400 years take milliseconds at the most. A table that no rewriting made can change at each minute, and may
+ * take a fraction of a microsecond for each minute that is passed: a host that lends such tables advances often, or reckons with that.
+ */
 softlode_told softlode_rota_advance(softlode_service *service, const uint8_t *rota, size_t length, uint32_t minute);
 softlode_told softlode_table_advance(softlode_service *service, const uint8_t *table, size_t length, uint32_t minute);
 

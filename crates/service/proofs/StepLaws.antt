@@ -86,11 +86,11 @@ module _ {j users permissions : ℕ} {π : Policy} (w : Ready j users permission
   pub advance-refused : (m n : ℕ) → n ≡ stateJudged users σ orElse advanceJudged σ m → (n ≡ 0 → ⊥) → record { outcome = refused n; after = σ } ≡ serviceStep j π σ (advance m)
   advance-refused m n e h = call-refused n (advance m) (advance-as m n e) h
 
-  pub advance-moved : (m n stays : ℕ) → n ≡ stateJudged users σ orElse advanceJudged σ m → n ≡ 0 → stays ≡ steadyOver π (σ .«open») (σ .now + 1) (m + 1)
-      → movedStep stays σ m ≡ serviceStep j π σ (advance m)
+  pub advance-moved : (m n stays a b : ℕ) → n ≡ stateJudged users σ orElse advanceJudged σ m → n ≡ 0 → stays ≡ steadyOver π (σ .«open») a b
+      → a ≡ σ .now + 1 → b ≡ m + 1 → movedStep stays σ m ≡ serviceStep j π σ (advance m)
   unfolding movedStep given-by left-by staying
-  advance-moved m n stays e z h =
-      ap (λ (x : ℕ). record { outcome = given (closed (count (difference (σ .«open») x))); after = state m x }) h
+  advance-moved m n stays a b e z h ea eb =
+      ap (λ (x : ℕ). record { outcome = given (closed (count (difference (σ .«open») x))); after = state m x }) (rw (ea, eb) at h)
       ∙ call-given n (advance m) (advance-as m n e) z
 
   -- open

@@ -21,7 +21,8 @@ pub fn advance(kind: Kind, s: &[u8], service: Service, m: u32) -> Advanced
             if bad != 0 {
                 return Advanced::Refused(bad, service);
             }
-            let stays = sweep::steady(s, source, service.now + 1, m + 1, service.open);
+            let now = service.now;
+            let stays = sweep::steady(s, source, now + 1, m + 1, service.open);
             machine::moved(stays, service, m)
         }
     }

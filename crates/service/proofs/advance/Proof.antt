@@ -29,17 +29,17 @@ returns c = advance-refused (ready (reached _ _ _ (c .before .before .before .be
 
 add-steady : tie.Need-add-steady
 unfolding E
-add-steady c = omega (arith, judged-minutes _ _ _ _ (c .before .before .judge-advance .ensures) (c .before .if1 .left))
+add-steady c = omega (arith, judged-minutes _ _ _ _ (c .before .judge-advance .ensures) (c .if1 .left))
 
 add-steady-2 : tie.Need-add-steady-2
 unfolding E
-add-steady-2 c = omega (arith, judged-minutes _ _ _ _ (c .before .before .judge-advance .ensures) (c .before .if1 .left))
+add-steady-2 c = omega (arith, judged-minutes _ _ _ _ (c .before .judge-advance .ensures) (c .if1 .left))
 
 steady-requires : tie.Need-steady-requires
 steady-requires c κs =
-    let w = reached _ _ _ (c .before .before .before .before .before .before .before .lend .ensures) (c .before .before .before .before .before .source .given .1) in
-    let j = judged-minutes _ _ _ _ (c .before .before .judge-advance .ensures) (c .before .if1 .left) in
-    (own w, j .0, j .1, inl (judged-open _ _ _ _ (c .before .before .judge-advance .ensures) (c .before .if1 .left) w (c .before .before .before .users .ensures)))
+    let w = reached _ _ _ (c .before .before .before .before .before .before .lend .ensures) (c .before .before .before .before .source .given .1) in
+    let j = judged-minutes _ _ _ _ (c .before .judge-advance .ensures) (c .if1 .left) in
+    (own w, omega (arith, j .0), omega (arith, j .1), inl (judged-open _ _ _ _ (c .before .judge-advance .ensures) (c .if1 .left) w (c .before .before .users .ensures)))
 
 moved-requires : tie.Need-moved-requires
 moved-requires c κs = search needs
@@ -49,9 +49,9 @@ returns-2 c = bytes-refused _ _ _ _ _ (stopped _ _ _ (c .before .before .before 
 
 returns-3 : tie.Need-returns-3
 returns-3 c =
-    let w = reached _ _ _ (c .before .before .before .before .before .before .before .before .before .lend .ensures) (c .before .before .before .before .before .before .before .source .given .1) in
+    let w = reached _ _ _ (c .before .before .before .before .before .before .before .before .lend .ensures) (c .before .before .before .before .before .before .source .given .1) in
     c .moved .ensures
-    ∙ advance-moved (ready w (c .before .before .before .before .before .users .ensures) refl) _ _ _ _ (c .before .before .before .before .judge-advance .ensures) (c .before .before .before .if1 .left) (steady-are w _ _ _ (c .before .steady .ensures))
+    ∙ advance-moved (ready w (c .before .before .before .before .users .ensures) refl) _ _ _ _ _ _ (c .before .before .before .judge-advance .ensures) (c .before .before .if1 .left) (steady-are w _ _ _ (c .before .steady .ensures)) (omega arith) (omega arith)
 
 pub advance-spec : {M : Type 1} → statement M
 advance-spec =
