@@ -4,5 +4,4 @@ pub mod JudgementLaws
 pub mod SearchLaws
 pub mod SequenceLaws
 pub mod ListLaws
-pub mod PartitionLaws
 pub mod FromLaws

@@ -3,5 +3,4 @@ pub mod Outcome
 pub mod Judgement
 pub mod Search
 pub mod Sequence
-pub mod Partition
 pub mod From
