@@ -37,7 +37,7 @@ returns-3 : tie.Need-returns-3
 returns-3 c = stage-early _ _ _ _ _ (source-read _ _ (c .before .before .before .before .before .before .before .before .pre .0) _ _ (c .before .before .before .before .before .row-role .ensures)) (c .before .before .before .before .if1 .left) (c .before .before .before .if2 .left) _ (window-read _ _ (c .before .before .before .before .before .before .before .before .pre .0) _ _ (c .before .before .read-window .ensures)) (c .if3 .taken)
 
 returns-4 : tie.Need-returns-4
-returns-4 c = stage-over _ _ _ _ _ (source-read _ _ (c .before .before .before .before .before .before .before .before .before .before .pre .0) _ _ (c .before .before .before .before .before .before .before .row-role .ensures)) (c .before .before .before .before .before .before .if1 .left) (c .before .before .before .before .before .if2 .left) _ (window-read _ _ (c .before .before .before .before .before .before .before .before .before .before .pre .0) _ _ (c .before .before .before .before .read-window .ensures)) (c .before .before .if3 .left) (c .if4 .taken)
+returns-4 c = stage-over _ _ _ _ _ (source-read _ _ (c .before .before .before .before .before .before .before .before .before .before .pre .0) _ _ (c .before .before .before .before .before .before .before .row-role .ensures)) (c .before .before .before .before .before .before .if1 .left) (c .before .before .before .before .before .if2 .left) _ (window-read _ _ (c .before .before .before .before .before .before .before .before .before .before .pre .0) _ _ (c .before .before .before .before .read-window .ensures)) (c .before .before .if3 .left) (omega (arith, c .if4 .taken))
 
 cast-if5 : tie.Need-cast-if5
 cast-if5 c = search needs
