@@ -2,23 +2,23 @@
 --     behind-none, behind-more             the pairs that end by phase x, which decide nothing
 --     reach-off, reach-on, reach-past      the first pair that ends after x decides, or there is none
 --     span-out, span-gap, span-in          out of the record's dates, between its pairs, and in both
---     spans-none, spans-more, spans-all    the records so far
+--     spans-none, spans-more, spans-past   the records so far, with one more that counts, and one that does not
+--     spans-all                            all of them
 --     record-ready                         a record of accepted records
 -- Assumes nothing.
 use Prim.Native.Nat.{ℕ, zero, suc, _+_, _-_, _*_, _%_, _≤_, _<_, min}
-use mathlib.Core.Path.{_≡_, refl, sym, ap, ap₂, _∙_, subst}
+use mathlib.Core.Path.{_≡_, refl, sym, ap, _∙_, subst}
 use mathlib.Core.Logic.{⊎-elim, _⊎_, inl, inr}
 use mathlib.Core.Bool.{Bool, true, false}
 use mathlib.Core.List.{List}
 use native.Mathlib.Nat.{le-refl, eq-or-lt-of-le, le-of-suc-le-suc}
 use native.Mathlib.Omega.{arith}
 use borrow.Author.Tests.{lt-ltb, le-ltb, le-leb, lt-leb, leb-true, ltb-true}
-use Rattle.ground.specs.Choice.{pick}
 use Rattle.ground.specs.Judgement.{inTurn}
 use Rattle.ground.proofs.BoolLaws.{lt-or-le, and-yes, clash}
 use Rattle.ground.proofs.SearchLaws.{any-none-of}
-use Rattle.bitset.specs.Sets.{has, insert}
-use Rattle.bitset.proofs.SetLaws.{setOf-none, setOf-more, has-below}
+use Rattle.bitset.specs.Sets.{has}
+use Rattle.bitset.proofs.SetLaws.{has-below}
 use Rattle.minutes.specs.Minutes.{E}
 use Rattle.minutes.specs.Lasting.{Lasting}
 use Rattle.minutes.proofs.LastingLaws.{phase-on, phase-turned}
@@ -158,26 +158,19 @@ module _ (c : ℕ) (h : Hours) (t : ℕ) where
             sym (p .is (v % c) (omega arith) (omega arith)) ∙ z
 
 -- ---- records
--- the walk is past k of the h records, of which is known which hold, and how far
-pub record Spanned (s : List ℕ) (c from h t set until era at k : ℕ) : Type 0 where
+-- the walk is past k of the h records, and knows how far those in `only` that hold do so
+pub record Spanned (s : List ℕ) (c from h t only until era at k : ℕ) : Type 0 where
   pub passed : Passed s from h k at
-  pub span : RecordsSpan s c from k t set until era
+  pub span : RecordsSpan s c from k t only until era
 
-pub spans-none : (s : List ℕ) (c from h t : ℕ) → t < E → Spanned s c from h t 0 E E from 0
-unfolding holding recordsThat
-spans-none s c from h t l =
+pub spans-none : (s : List ℕ) (c from h t only : ℕ) → t < E → Spanned s c from h t only E E from 0
+spans-none s c from h t only l =
     record {
       passed = passed-none s from h;
-      span = record { is = setOf-none _; lasts = λ k m. absurd (omega arith); after = l; longer = l; era-most = le-refl E };
+      span = record { lasts = λ k m. absurd (omega arith); after = l; longer = l; era-most = le-refl E };
     }
 
-module _ {s : List ℕ} {c from h t set until era at k : ℕ} (w : Spanned s c from h t set until era at k) where
-  more : k < 64 → (v : ℕ) → holding s c from (k + 1) v ≡ pick (holds c (hoursAt s at) v) (insert (holding s c from k v) k) (holding s c from k v)
-  unfolding holding recordsThat
-  more l v =
-      setOf-more k _ l
-      ∙ ap (λ (i : ℕ). pick (holds c (hoursAt s i) v) (insert (holding s c from k v) k) (holding s c from k v)) (sym (w .passed .here))
-
+module _ {s : List ℕ} {c from h t only until era at k : ℕ} (w : Spanned s c from h t only until era at k) where
   -- record k, and one before it, among one record more
   last : (v : ℕ) → has (holding s c from (k + 1) v) k ≡ holds c (hoursAt s at) v
   unfolding holding recordsThat
@@ -187,41 +180,49 @@ module _ {s : List ℕ} {c from h t set until era at k : ℕ} (w : Spanned s c f
   unfolding holding recordsThat
   earlier i l v = has-below (k + 1) _ i (omega arith) ∙ sym (has-below k _ i l)
 
-  pub spans-more : {on : Bool} {until′ era′ set₁ until₁ era₁ at₁ : ℕ} → k < h → h ≤ 64 → RecordSpan c (hoursAt s at) t on until′ era′
-      → set₁ ≡ pick on (insert set k) set → until₁ ≡ min until until′ → era₁ ≡ min era era′ → at₁ ≡ at + 10 + 4 * pairsAt s at
-      → Spanned s c from h t set₁ until₁ era₁ at₁ (k + 1)
-  spans-more {on} {until′} {era′} {set₁} {until₁} {era₁} l top r es eu ee ea =
+  -- one record more: no end is later, and record k lasts to there where it counts
+  one-more : {until₁ era₁ at₁ : ℕ} → k < h → until₁ ≤ until → era₁ ≤ era → t < until₁ → t < era₁
+      → (has only k ≡ true → holds c (hoursAt s at) t ≡ true → Lasting (holds c (hoursAt s at)) c t until₁ era₁) → at₁ ≡ at + 10 + 4 * pairsAt s at
+      → Spanned s c from h t only until₁ era₁ at₁ (k + 1)
+  one-more {until₁} {era₁} l mu me a b f ea =
       record {
         passed = passed-more (w .passed) l ea;
         span =
             record {
-              is = set-is;
-              lasts = λ i m z.
+              lasts = λ i m o z.
                   ⊎-elim
-                  (λ (e : i ≡ k). rw e (of-last (r .lasts (r .is ∙ sym (last t) ∙ member k ∙ (rw e at z)))))
-                  (λ (b : i < k). of-earlier i b (w .span .lasts i b (ap (λ (x : ℕ). has x i) (w .span .is) ∙ sym (earlier i b t) ∙ member i ∙ z)))
+                  (λ (e : i ≡ k). rw e (of-last (f (rw e at o) (sym (last t) ∙ (rw e at z)))))
+                  (λ (q : i < k). of-earlier i q (w .span .lasts i q o (sym (earlier i q t) ∙ z)))
                   (eq-or-lt-of-le (omega arith));
-              after = omega (arith, w .span .after, r .after);
-              longer = omega (arith, w .span .longer, r .longer);
+              after = a;
+              longer = b;
               era-most = omega (arith, w .span .era-most);
             };
       }
     where
-      set-is : set₁ ≡ holding s c from (k + 1) t
-      set-is = es ∙ ap₂ (λ (b : Bool) (x : ℕ). pick b (insert x k) x) (r .is) (w .span .is) ∙ sym (more (omega arith) t)
-
-      member : (i : ℕ) → has (holding s c from (k + 1) t) i ≡ has set₁ i
-      member i = ap (λ (x : ℕ). has x i) (sym set-is)
-
-      of-last : Lasting (holds c (hoursAt s at)) c t until′ era′ → Lasting (λ v. has (holding s c from (k + 1) v) k) c t until₁ era₁
-      of-last y = record { each = λ v j a b d. last (v + j * c) ∙ y .each v j a (omega arith) (omega arith) }
+      of-last : Lasting (holds c (hoursAt s at)) c t until₁ era₁ → Lasting (λ v. has (holding s c from (k + 1) v) k) c t until₁ era₁
+      of-last y = record { each = λ v j a b d. last (v + j * c) ∙ y .each v j a b d }
 
       of-earlier : (i : ℕ) → i < k → Lasting (λ v. has (holding s c from k v) i) c t until era
           → Lasting (λ v. has (holding s c from (k + 1) v) i) c t until₁ era₁
       of-earlier i m y = record { each = λ v j a b d. earlier i m (v + j * c) ∙ y .each v j a (omega arith) (omega arith) }
 
-  pub spans-all : h ≤ k → RecordsSpan s c from h t set until era
-  spans-all l = subst (λ (n : ℕ). RecordsSpan s c from n t set until era) (passed-end (w .passed) l) (w .span)
+  module _ {at₁ : ℕ} (l : k < h) (ea : at₁ ≡ at + 10 + 4 * pairsAt s at) where
+    pub spans-more : {on : Bool} {until′ era′ until₁ era₁ : ℕ} → RecordSpan c (hoursAt s at) t on until′ era′
+        → until₁ ≡ min until until′ → era₁ ≡ min era era′ → Spanned s c from h t only until₁ era₁ at₁ (k + 1)
+    spans-more {on} {until′} {era′} {until₁} {era₁} r eu ee =
+        one-more l (omega arith) (omega arith) (omega (arith, w .span .after, r .after)) (omega (arith, w .span .longer, r .longer))
+        (λ o z. shorter (r .lasts (r .is ∙ z))) ea
+      where
+        shorter : Lasting (holds c (hoursAt s at)) c t until′ era′ → Lasting (holds c (hoursAt s at)) c t until₁ era₁
+        shorter y = record { each = λ v j a b d. y .each v j a (omega arith) (omega arith) }
+
+    pub spans-past : {until₁ era₁ : ℕ} → has only k ≡ false → until₁ ≡ until → era₁ ≡ era → Spanned s c from h t only until₁ era₁ at₁ (k + 1)
+    spans-past o eu ee =
+        one-more l (omega arith) (omega arith) (omega (arith, w .span .after)) (omega (arith, w .span .longer)) (λ z. clash (has only k) z o) ea
+
+  pub spans-all : h ≤ k → RecordsSpan s c from h t only until era
+  spans-all l = subst (λ (n : ℕ). RecordsSpan s c from n t only until era) (passed-end (w .passed) l) (w .span)
 
   pub record-ready : inTurn (recordJudged s c from) h ≡ 0 → k < h → RecordReady s c at
   record-ready a l = let f = passed-fine (w .passed) c a l in record { within = f .within; well = hours-well s c at (pairsBefore s from k) f }

@@ -32,10 +32,9 @@ pub record RecordSpan (c : ℕ) (h : Hours) (t : ℕ) (on : Bool) (until era : �
   pub longer : t < era
   pub era-most : era ≤ E
 
--- the set has the numbers of the records that hold at t; each of them holds to before `until`, and, by the cycle of c minutes, to before `era`
-pub record RecordsSpan (s : List ℕ) (c from h t set until era : ℕ) : Type 0 where
-  pub is : set ≡ holding s c from h t
-  pub lasts : (k : ℕ) → k < h → has set k ≡ true → Lasting (λ v. has (holding s c from h v) k) c t until era
+-- each of the records in `only` that holds at t does so to before `until`, and, by the cycle of c minutes, to before `era`
+pub record RecordsSpan (s : List ℕ) (c from h t only until era : ℕ) : Type 0 where
+  pub lasts : (k : ℕ) → k < h → has only k ≡ true → has (holding s c from h t) k ≡ true → Lasting (λ v. has (holding s c from h v) k) c t until era
   pub after : t < until
   pub longer : t < era
   pub era-most : era ≤ E

@@ -1,4 +1,4 @@
-// Which hours records hold at a minute, and how far these go on holding: by their dates and pairs, with no walk over minutes.
+// How far hours records that hold at a minute go on holding: by their dates and pairs, with no walk over minutes.
 ghost use mathlib.Core.Path.{_≡_};
 ghost use Prim.Native.Nat.{_%_, _≤_, _<_};
 ghost use Rattle.ground.specs.Judgement.{inTurn};
@@ -20,9 +20,8 @@ pub struct Span {
     pub era: u32,
 }
 
-// The numbers of the records that hold at a minute; each of them holds to before `until`, and, by the cycle, to before `era`.
+// How far some records that hold at a minute do so: to before `until`, and, by the cycle, to before `era`.
 pub struct Spans {
-    pub set: u64,
     pub until: u32,
     pub era: u32,
 }
@@ -82,26 +81,24 @@ pub fn record_span(s: &[u8], cycle: u32, at: usize, t: u32, x: u32) -> Span
     }
 }
 
-// Of the h records from `from` on, at minute t, of records that are not refused.
-pub fn records_span(s: &[u8], cycle: u32, from: usize, h: usize, t: u32) -> Spans
+// Of those of the h records from `from` on that are in `only`, at minute t, of records that are not refused. The others are passed.
+pub fn records_span(s: &[u8], cycle: u32, from: usize, h: usize, t: u32, only: u64) -> Spans
     requires { ⌜ (inTurn (recordJudged (now s) cycle from) h ≡ 0) × (h ≤ 32) × (0 < cycle) × (cycle ≤ 40320) × (t < E) ⌝ }
-    ensures { λ r. ⌜ RecordsSpan (now (s .entry)) cycle from h t (r .set) (r .until) (r .era) ⌝ }
+    ensures { λ r. ⌜ RecordsSpan (now (s .entry)) cycle from h t only (r .until) (r .era) ⌝ }
 {
     let x = minutes::phase(cycle, t);
-    let mut set = 0;
     let mut until = minutes::END;
     let mut era = minutes::END;
     let mut k = 0;
     let mut at = from;
     while k < h {
-        let r = record_span(s, cycle, at, t, x);
-        if r.on {
-            set = bitset::with(set, k as u32);
+        if bitset::contains(only, k as u32) {
+            let r = record_span(s, cycle, at, t, x);
+            until = minutes::earlier(until, r.until);
+            era = minutes::earlier(era, r.era);
         }
-        until = minutes::earlier(until, r.until);
-        era = minutes::earlier(era, r.era);
         at = hours::next_record(s, at);
         k += 1;
     }
-    Spans { set, until, era }
+    Spans { until, era }
 }

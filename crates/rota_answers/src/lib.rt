@@ -41,7 +41,7 @@ fn row_of(s: &[u8], h: usize, set: u64, at: usize, x: u32) -> bool
 }
 
 // Whether the row at `at` is one of these roles and its hours are in the set.
-fn row_with(s: &[u8], h: usize, set: u64, at: usize, roles: u64) -> bool
+pub fn row_with(s: &[u8], h: usize, set: u64, at: usize, roles: u64) -> bool
     requires { ⌜ (at + 3 ≤ length (now s)) × (h ≤ 32) × (dangling h (rowAtByte (now s) at .hours) ≡ false) × (rowAtByte (now s) at .role < 64) ⌝ }
     ensures { λ r. ⌜ r ≡ (has roles (rowAtByte (now (s .entry)) at .role) && refIn set (rowAtByte (now (s .entry)) at .hours)) ⌝ }
 {
@@ -134,7 +134,7 @@ fn users_with(s: &[u8], h: usize, set: u64, roles: u64, at: usize, n: usize) -> 
 }
 
 // The enabled ones of n roles, whose bytes begin at `at`.
-fn roles_enabled(s: &[u8], h: usize, set: u64, at: usize, n: usize) -> u64
+pub fn roles_enabled(s: &[u8], h: usize, set: u64, at: usize, n: usize) -> u64
     requires { ⌜ RolesFine (now s) at n × (h ≡ hoursOf (now s)) × (h ≤ 32) ⌝ }
     ensures { λ r. ⌜ r ≡ rolesEnabled (now (s .entry)) set n ⌝ }
 {

@@ -1,4 +1,4 @@
--- Those who hold a permission of an accepted rota do so as long as the hours records that hold.
+-- Those who hold a permission of an accepted rota do so as long as the hours records that they rest on.
 --     cycle-is, cycle-some, cycle-most    the cycle of the layout
 --     few-users, users-are                the users of the policy
 --     held                                who holds a permission, and how far, by the hours records
@@ -11,7 +11,7 @@ use native.Mathlib.Omega.{arith}
 use borrow.Author.Tests.{ltb-true}
 use Rattle.ground.proofs.BoolLaws.{and-yes}
 use Rattle.bitset.specs.Sets.{has, intersection}
-use Rattle.bitset.proofs.SetLaws.{has-setOf, has-intersection}
+use Rattle.bitset.proofs.SetLaws.{has-setOf}
 use Rattle.minutes.specs.Minutes.{E}
 use Rattle.hours.specs.Inside.{recordsThat, holding}
 use Rattle.hours_times.specs.Spans.{RecordsSpan}
@@ -26,6 +26,7 @@ use Rattle.rota.proofs.LocatedLaws as located
 use Rattle.rota_answers.specs.Gathered.{holdersBy}
 use Rattle.rota_answers.proofs.AskedLaws.{holders-at}
 use Rattle.rota_answers.proofs.HoldersUp.{holders-up}
+use Rattle.rota_rests.specs.Rests.{Resting}
 
 module _ (s : List ℕ) (l : Layout) (w : Located s l) where
   pub cycle-is : l .counts .cycle ≡ cycleOf s
@@ -53,34 +54,33 @@ module _ (s : List ℕ) (l : Layout) (w : Located s l) where
   unfolding holding recordsThat
   on-below t k h = ltb-true _ _ (and-yes _ _ (sym (has-setOf (l .counts .hours) _ k) ∙ h) .0)
 
-  pub held : (t among : ℕ) → t < E → {set until era x y : ℕ} → RecordsSpan s (l .counts .cycle) (l .«hours_at») (l .counts .hours) t set until era
-      → x ≡ holdersBy s set → y ≡ intersection among x → HeldAmong (policyOf (rotaOf s)) (cycleOf s) among t y until era
-  held t among early {set} {until} {era} {x} {y} r ex ey =
-      subst (λ (c : ℕ). HeldAmong (policyOf (rotaOf s)) c among t y until era) cycle-is
+  pub held : (t among : ℕ) → t < E → {set found on until era : ℕ} → set ≡ onAt t → Resting s set among found on
+      → RecordsSpan s (l .counts .cycle) (l .«hours_at») (l .counts .hours) t on until era
+      → HeldAmong (policyOf (rotaOf s)) (cycleOf s) among t found until era
+  held t among early {set} {found} {on} {until} {era} es w₁ r =
+      subst (λ (c : ℕ). HeldAmong (policyOf (rotaOf s)) c among t found until era) cycle-is
       (record {
-        is = ey ∙ ap (intersection among) (holders-at s l w set t early (r .is) x ex);
+        is = w₁ .is ∙ ap (intersection among) (holders-at s l w set t early es (holdersBy s set) refl);
         lasts = λ u m h.
             record {
               each = λ v k a b d.
-                  still u m (v + k * l .counts .cycle) (omega (arith, r .era-most)) (λ i z. r .lasts i (below i z) z .each v k a b d) (holds-now u m h);
+                  still u m (v + k * l .counts .cycle) (omega (arith, r .era-most))
+                  (λ i z. let q = on-now i z in r .lasts i (on-below t i q) z q .each v k a b d)
+                  (w₁ .rests u h);
             };
         after = r .after;
         longer = r .longer;
         era-most = r .era-most;
       })
     where
-      below : (i : ℕ) → has set i ≡ true → i < l .counts .hours
-      below i z = on-below t i (ap (λ (n : ℕ). has n i) (sym (r .is)) ∙ z)
+      -- a record that they rest on holds at t
+      on-now : (i : ℕ) → has on i ≡ true → has (onAt t) i ≡ true
+      on-now i z = ap (λ (n : ℕ). has n i) (sym es) ∙ w₁ .within i z
 
-      holds-now : (u : ℕ) → u < policyOf (rotaOf s) .users → has y u ≡ true → has (holdersBy s set) u ≡ true
-      holds-now u m h =
-          ap (λ (n : ℕ). has n u) (sym ex)
-          ∙ and-yes (has among u) (has x u) (sym (has-intersection among x u (omega (arith, few-users))) ∙ ap (λ (n : ℕ). has n u) (sym ey) ∙ h) .1
-
-      -- where the hours of the set hold at q, whoever holds a permission by them does at q
-      still : (u : ℕ) → u < policyOf (rotaOf s) .users → (q : ℕ) → q < E → ((i : ℕ) → has set i ≡ true → has (onAt q) i ≡ true)
-          → has (holdersBy s set) u ≡ true → holdsAny (policyOf (rotaOf s)) q u ≡ true
+      -- where the records hold at q that they rest on, whoever holds a permission by them does at q
+      still : (u : ℕ) → u < policyOf (rotaOf s) .users → (q : ℕ) → q < E → ((i : ℕ) → has on i ≡ true → has (onAt q) i ≡ true)
+          → has (holdersBy s on) u ≡ true → holdsAny (policyOf (rotaOf s)) q u ≡ true
       still u m q n f h =
           sym (holder (policyOf (rotaOf s)) q u m)
           ∙ ap (λ (z : ℕ). has z u) (sym (holders-at s l w (onAt q) q n refl _ refl))
-          ∙ holders-up s set (onAt q) f u h
+          ∙ holders-up s on (onAt q) f u h

@@ -8,17 +8,20 @@ ghost use Rattle.rota.specs.Inside.{Located};
 use policy::Held;
 use rota::Layout;
 
-// Of `among`, who holds a permission at minute t, and how far these go on holding one. As long as the hours that hold at t do, so do the holders.
+// Of `among`, who holds a permission at minute t, and how far these go on holding one. As long as the hours that they rest on hold, so do they.
 pub fn held_at(s: &[u8], l: Layout, t: u32, among: u64) -> Held
     requires { ⌜ Located (now s) l × (t < E) ⌝ }
     ensures { λ r. ⌜ HeldAmong (policyOf (rotaOf (now (s .entry)))) (cycleOf (now (s .entry))) among t (r .set) (r .until) (r .era) ⌝ }
 {
     let n = l.counts;
-    let hours = hours_times::records_span(s, n.cycle, l.hours_at, n.hours as usize, t);
-    let holders = rota_answers::holders_by(s, l, hours.set);
+    let h = n.hours as usize;
+    let set = hours_reader::holding_at(s, n.cycle, l.hours_at, h, t);
+    let hours = rota_rests::permitted_hours(s, l);
+    let r = rota_rests::resting(s, l, &hours, set, among);
+    let span = hours_times::records_span(s, n.cycle, l.hours_at, h, t, r.on);
     Held {
-        set: bitset::both(among, holders),
-        until: hours.until,
-        era: hours.era,
+        set: r.found,
+        until: span.until,
+        era: span.era,
     }
 }

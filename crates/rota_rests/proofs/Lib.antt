@@ -1,0 +1,3 @@
+pub mod NumberLaws
+pub mod PermittedLaws
+pub mod RestLaws
