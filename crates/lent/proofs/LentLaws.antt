@@ -3,6 +3,7 @@
 --     stopped, reached                                       what `lend` answers, told to its caller
 --     as-rota, as-table                                      what is lent, in the words of the rota or of the table
 --     holders-as, answer-as                                  what the rota or the table answers is what the lent bytes answer
+--     prepared-rota, prepared-table, permitted               what is found out once
 --     held-rota, held-table                                  who holds a permission by it, and how far
 --     own, holders-are, answer-is, users-are,
 --     permissions-are, few, cycle-fine, steady-are           what is lent, in the words of the kind that it was lent as
@@ -18,7 +19,7 @@ use Rattle.policy.specs.Policy.{holdersAt}
 use Rattle.policy.specs.Held.{HeldAmong}
 use Rattle.policy.specs.Steady.{steadyOver}
 use Rattle.rota.specs.Rota as rota
-use Rattle.rota.specs.RotaBytes.{cycleOf as rotaCycle, rotaOf}
+use Rattle.rota.specs.RotaBytes.{cycleOf as rotaCycle, rotaOf, permissionRowsAt, permissionRowsOf}
 use Rattle.rota.specs.Inside.{layoutGiven, layoutOutcome, layoutOf, Located}
 use Rattle.rota.specs.Answers.{countsOf as rotaCounts}
 use Rattle.rota.specs.declared.Layout.{Layout}
@@ -35,10 +36,11 @@ use Rattle.table.specs.declared.TableAnswer.{TableAnswer}
 use Rattle.table.specs.declared.TableAnswer.the-variants as told
 use Rattle.table.proofs.HeaderLaws.{counts-are}
 use Rattle.table.proofs.FineLaws.{table-fine}
+use Rattle.rota_rests.specs.Rests.{Permitted}
 use Rattle.rota_times.proofs.HeldLaws.{cycle-is as rota-cycle}
 use Rattle.table_reader.proofs.ReadLaws.{closed, opened}
 use Rattle.lent.specs.Lent.{judgedAs, policyAs}
-use Rattle.lent.specs.Inside.{sourceAs, lendingGiven, lendOutcome, Lends, kindOf, usersOf, permissionsOf, cycleOf}
+use Rattle.lent.specs.Inside.{sourceAs, lendingGiven, lendOutcome, Lends, kindOf, usersOf, permissionsOf, cycleOf, Prepared}
 use Rattle.lent.specs.declared.Kind.{Kind}
 use Rattle.lent.specs.declared.Kind.the-variants as kind
 use Rattle.lent.specs.declared.Source.{Source}
@@ -111,6 +113,17 @@ module _ (s : List ℕ) (t : ℕ) {x y : Source} where
 
   pub answer-as : (u p : ℕ) → x ≡ y → given (policyAs (kindOf y) s .answer u p t) ≡ given (policyAs (kindOf x) s .answer u p t)
   answer-as u p e = ap (λ (z : Source). given (policyAs (kindOf z) s .answer u p t)) (sym e)
+
+-- what is found out once
+module _ (s hours : List ℕ) {x : Source} where
+  pub prepared-rota : {l : Layout} → x ≡ source.Rota l → Permitted s (permissionRowsAt s) (permissionRowsOf s) hours → Prepared x s hours
+  prepared-rota e p = subst (λ (y : Source). Prepared y s hours) (sym e) p
+
+  pub prepared-table : {n : Counts} → x ≡ source.Table n → Prepared x s hours
+  prepared-table e = subst (λ (y : Source). Prepared y s hours) (sym e) refl
+
+  pub permitted : {l : Layout} → x ≡ source.Rota l → Prepared x s hours → Permitted s (permissionRowsAt s) (permissionRowsOf s) hours
+  permitted e p = subst (λ (y : Source). Prepared y s hours) e p
 
 -- who holds a permission, and how far
 module _ {s : List ℕ} {x : Source} (w : Lends (kindOf x) s x) {among t set until era : ℕ} where

@@ -4,6 +4,8 @@ use mathlib.Core.Path.{_≡_}
 use mathlib.Core.List.{List}
 use Rattle.ground.specs.Outcome.{Outcome, refused, given, outcome}
 use Rattle.rota.specs.Inside.{layoutOf}
+use Rattle.rota.specs.RotaBytes.{permissionRowsAt, permissionRowsOf}
+use Rattle.rota_rests.specs.Rests.{Permitted}
 use Rattle.table.specs.Answers.{countsOf}
 use Rattle.lent.specs.Lent.{judgedAs}
 use Rattle.lent.specs.declared.Kind.{Kind}
@@ -45,3 +47,8 @@ permissionsOf (source.Table n) = n .permissions
 abbrev pub cycleOf : Source → ℕ
 cycleOf (source.Rota l) = l .counts .cycle
 cycleOf (source.Table n) = n .cycle
+
+-- what is found out once for many minutes: of a rota, the hours of each role's permissions
+abbrev pub Prepared : Source → List ℕ → List ℕ → Type 0
+Prepared (source.Rota l) s hours = Permitted s (permissionRowsAt s) (permissionRowsOf s) hours
+Prepared (source.Table n) s hours = _≡_ {A = ℕ} 0 0

@@ -6,7 +6,7 @@ ghost use Rattle.minutes.specs.Minutes.{E};
 ghost use Rattle.policy.specs.Policy.{answerGiven, holdersAt};
 ghost use Rattle.policy.specs.Held.{HeldAmong};
 ghost use Rattle.lent.specs.Lent.{policyAs};
-ghost use Rattle.lent.specs.Inside.{lendingGiven, lendOutcome, kindOf, usersOf, permissionsOf, cycleOf, Lends};
+ghost use Rattle.lent.specs.Inside.{lendingGiven, lendOutcome, kindOf, usersOf, permissionsOf, cycleOf, Lends, Prepared};
 use policy::Answer;
 use policy::Held;
 use rota::Layout;
@@ -109,21 +109,33 @@ pub fn holders_at(s: &[u8], source: Source, t: u32) -> u64
     }
 }
 
+// What is found out once for many minutes: of a rota, the hours of each role's permissions.
+pub fn prepare(s: &[u8], source: Source) -> [u64; 32]
+    requires { ⌜ Lends (kindOf source) (now s) source ⌝ }
+    ensures { λ r. ⌜ Prepared source (now (s .entry)) r ⌝ }
+{
+    match source {
+        Source::Rota(l) => rota_rests::permitted_hours(s, l),
+        Source::Table(n) => [0; 32],
+    }
+}
+
 // Of `among`, those who hold a permission at a minute below E, and how far they go on, looked at as far as `limit`. `places` is where a table's
 // searches begin and end: any numbers will do, and those of a minute shortly before save the searches.
 pub fn held_near(
     s: &[u8],
     source: Source,
+    hours: &[u64; 32],
     places: &mut [u64; 32],
     t: u32,
     among: u64,
     limit: u32,
 ) -> Held
-    requires { ⌜ Lends (kindOf source) (now s) source × (t < E) × (t < limit) ⌝ }
+    requires { ⌜ Lends (kindOf source) (now s) source × (t < E) × (t < limit) × Prepared source (now s) (now hours) ⌝ }
     ensures { λ r. ⌜ HeldAmong (policyAs (kindOf source) (now (s .entry))) (cycleOf source) among t (r .set) (r .until) (r .era) ⌝ }
 {
     match source {
-        Source::Rota(l) => rota_times::held_at(s, l, t, among),
+        Source::Rota(l) => rota_times::held_at(s, l, hours, t, among),
         Source::Table(n) => table_held::held_near(s, n, places, t, among, limit),
     }
 }

@@ -6,7 +6,7 @@ ghost use Prim.Native.Nat.{_+_, _^_, _≤_, _<_};
 ghost use Rattle.minutes.specs.Minutes.{E};
 ghost use Rattle.policy.specs.Steady.{steadyOver};
 ghost use Rattle.lent.specs.Lent.{policyAs};
-ghost use Rattle.lent.specs.Inside.{kindOf, usersOf, Lends};
+ghost use Rattle.lent.specs.Inside.{kindOf, usersOf, Lends, Prepared};
 use lent::Source;
 
 // Who holds a permission at each minute to before `next`; and how many minutes it paid to look ahead, which promises nothing.
@@ -20,13 +20,14 @@ struct Turn {
 fn one_cycle(
     s: &[u8],
     source: Source,
+    hours: &[u64; 32],
     places: &mut [u64; 32],
     x: u32,
     b: u32,
     among: u64,
     reach: u32,
 ) -> Turn
-    requires { ⌜ Lends (kindOf source) (now s) source × (x < b) × (b ≤ E) × (among < 2 ^ usersOf source) × (0 < reach) × (reach ≤ E + E) ⌝ }
+    requires { ⌜ Lends (kindOf source) (now s) source × (x < b) × (b ≤ E) × (among < 2 ^ usersOf source) × (0 < reach) × (reach ≤ E + E) × Prepared source (now s) (now hours) ⌝ }
     ensures { λ r. ⌜ (r .set ≡ steadyOver (policyAs (kindOf source) (now (s .entry))) among x (r .next)) × (x < r .next) × (r .next ≤ b) × (0 < r .reach) × (r .reach ≤ E + E) ⌝ }
 {
     let far = x + lent::cycle(source);
@@ -42,7 +43,15 @@ fn one_cycle(
                 reach: ahead,
             };
         }
-        let h = lent::held_near(s, source, places, y, stays, minutes::earlier(e, y + ahead));
+        let h = lent::held_near(
+            s,
+            source,
+            hours,
+            places,
+            y,
+            stays,
+            minutes::earlier(e, y + ahead),
+        );
         stays = h.set;
         e = minutes::earlier(e, h.era);
         ahead = 2 * (minutes::earlier(e, h.until) - y);
@@ -61,9 +70,13 @@ pub fn steady(s: &[u8], source: Source, a: u32, b: u32, among: u64) -> u64
     requires { ⌜ Lends (kindOf source) (now s) source × (a ≤ b) × (b ≤ E) × ((among < 2 ^ usersOf source) ⊎ (b ≡ a + 1)) ⌝ }
     ensures { λ r. ⌜ r ≡ steadyOver (policyAs (kindOf source) (now (s .entry))) among a b ⌝ }
 {
+    if a == b {
+        return among;
+    }
     if b - a == 1 {
         return bitset::both(among, lent::holders_at(s, source, a));
     }
+    let hours = lent::prepare(s, source);
     let mut places = [18446744073709551615; 32];
     let mut t = Turn {
         set: among,
@@ -74,7 +87,7 @@ pub fn steady(s: &[u8], source: Source, a: u32, b: u32, among: u64) -> u64
         if t.set == 0 {
             return 0;
         }
-        t = one_cycle(s, source, &mut places, t.next, b, t.set, t.reach);
+        t = one_cycle(s, source, &hours, &mut places, t.next, b, t.set, t.reach);
     }
     t.set
 }

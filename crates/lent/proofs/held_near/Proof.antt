@@ -1,4 +1,4 @@
-use Rattle.lent.proofs.LentLaws.{as-rota, as-table, held-rota, held-table}
+use Rattle.lent.proofs.LentLaws.{as-rota, as-table, permitted, held-rota, held-table}
 use borrow.Author.Needs.{needs}
 use Rattle.lent.proofs.held_near.Statement.{statement}
 use Rattle.lent.proofs.held_near.Tie as tie
@@ -7,7 +7,7 @@ enum-known-source : tie.Need-enum-known-source
 enum-known-source c = search needs
 
 held-at-requires : tie.Need-held-at-requires
-held-at-requires c κs = let p = c .before .before .before .before .pre in (as-rota (p .0) (c .before .source .given .1), p .1)
+held-at-requires c κs = let p = c .before .before .before .before .pre in let e = c .before .source .given .1 in (as-rota (p .0) e, permitted _ _ e (p .3), p .1)
 
 enum-known-source-2 : tie.Need-enum-known-source-2
 enum-known-source-2 c = search needs

@@ -11,25 +11,15 @@ cast-h c = search needs
 holding-at-requires : tie.Need-holding-at-requires
 holding-at-requires c κs = let p = c .before .before .before .pre in (records-fine _ _ (p .0), few-hours _ _ (p .0), some-cycle _ _ (p .0))
 
-permitted-hours-requires : tie.Need-permitted-hours-requires
-permitted-hours-requires c κs = search needs
-
 resting-requires : tie.Need-resting-requires
 resting-requires c κs = search needs
 
 records-span-requires : tie.Need-records-span-requires
-records-span-requires c κs = let p = c .before .before .before .before .before .before .before .pre in (records-fine _ _ (p .0), few-hours _ _ (p .0), some-cycle _ _ (p .0), cycle-most _ _ (p .0), p .1)
+records-span-requires c κs = let p = c .before .before .before .before .before .pre in (records-fine _ _ (p .0), few-hours _ _ (p .0), some-cycle _ _ (p .0), cycle-most _ _ (p .0), p .2)
 
 returns : tie.Need-returns
-returns c = let p = c .before .before .before .before .before .before .before .before .pre in held _ _ (p .0) _ _ (p .1) (c .before .before .before .before .holding-at .ensures) (c .before .resting .ensures) (c .records-span .ensures)
+returns c = let p = c .before .before .before .before .before .before .pre in held _ _ (p .0) _ _ (p .2) (c .before .before .holding-at .ensures) (c .before .resting .ensures) (c .records-span .ensures)
 
 pub held-at-spec : {M : Type 1} → statement M
 held-at-spec =
-    tie.close
-    (tie.spec
-    cast-h
-    holding-at-requires
-    permitted-hours-requires
-    resting-requires
-    records-span-requires
-    returns)
+    tie.close (tie.spec cast-h holding-at-requires resting-requires records-span-requires returns)

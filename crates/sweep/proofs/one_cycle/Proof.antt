@@ -12,11 +12,11 @@ use Rattle.sweep.proofs.one_cycle.Statement.{statement}
 use Rattle.sweep.proofs.one_cycle.Tie as tie
 
 abbrev Inv-loop : tie.InvT-loop
-Inv-loop s source places₀ x b among reach far stays₀ y₀ e₀ ahead₀ places stays y e ahead =
+Inv-loop s source hours places₀ x b among reach far stays₀ y₀ e₀ ahead₀ places stays y e ahead =
     Swept (policyAs (kindOf source) s) (cycleOf source) among x y e stays × (e ≤ b) × (0 < ahead) × (ahead ≤ E + E)
 
 abbrev μ-loop : tie.MeasureT-loop
-μ-loop s source places₀ x b among reach far stays₀ y₀ e₀ ahead₀ places stays y e ahead = b - y
+μ-loop s source hours places₀ x b among reach far stays₀ y₀ e₀ ahead₀ places stays y e ahead = b - y
 
 cycle-requires : tie.Need-cycle-requires Inv-loop μ-loop
 cycle-requires c κs = search needs
@@ -49,7 +49,7 @@ held-near-requires c κs =
     let p = c .before .before .before .before .before .before .before .before .pre in
     let y = c .before .before .before .if1 .taken in
     let q = c .before .before .before .before .earlier .ensures in
-    (p .0, omega (arith, y, q, i .1, p .2), omega (arith, y, q, i .2, c .earlier2 .ensures))
+    (p .0, omega (arith, y, q, i .1, p .2), omega (arith, y, q, i .2, c .earlier2 .ensures), p .6)
 
 earlier-requires-3 : tie.Need-earlier-requires-3 Inv-loop μ-loop
 earlier-requires-3 c κs = search needs
