@@ -146,8 +146,8 @@ softlode_written softlode_rewrite(const uint8_t *rota, size_t length, uint8_t *a
  * and no other: `value` counts them. So a host may pause: nobody sleeps through a closing. Who passes from right to right, or from role to
  * role, without a minute between stays. The old now is not judged again, and an advance to it closes nobody. After the bytes' refusals: 40; 33; 41.
  *
- * On a rota, and on the table of a rota, 400 years take milliseconds at the most. A table that no rewriting made can change at each minute, and may
- * take a fraction of a microsecond for each minute that is passed: a host that lends such tables advances often, or reckons with that.
+ * On a rota, and on the table of a rota, 400 years take some milliseconds at the most. A table that no rewriting made can change at each minute, and
+ * may take a microsecond or two for each minute that is passed: a host that lends such tables advances often, or reckons with that.
  */
 softlode_told softlode_rota_advance(softlode_service *service, const uint8_t *rota, size_t length, uint32_t minute);
 softlode_told softlode_table_advance(softlode_service *service, const uint8_t *table, size_t length, uint32_t minute);

@@ -1,5 +1,5 @@
--- The plain machine (document 01, "The service"; refusals 40 to 44), as document 02, item 3, amends it. It is fed what answers questions, a policy, and the calls' arguments, and
--- keeps a state of its own. It knows nothing of bytes.
+-- The plain machine (document 01, "The service"; refusals 40 to 44), as document 02, item 3, amends it. It is fed what answers questions, a policy,
+-- and the calls' arguments, and keeps a state of its own. It knows nothing of bytes.
 use Prim.Native.Nat.{ℕ, zero, suc, _+_, _^_}
 use mathlib.Core.Bool.{Bool, not, _||_}
 use mathlib.Core.Option.{Option}
