@@ -1,10 +1,10 @@
 -- How far a record that holds at a minute goes on holding.
---     behind-none, behind-more             the pairs that end by phase x, which decide nothing
+--     halved-none .. halved-all            the search for the first pair that ends after phase x
 --     reach-off, reach-on, reach-past      the first pair that ends after x decides, or there is none
 --     span-out, span-gap, span-in          out of the record's dates, between its pairs, and in both
 --     spans-none, spans-more, spans-past   the records so far, with one more that counts, and one that does not
 --     spans-all                            all of them
---     record-ready                         a record of accepted records
+--     passed-ready, record-ready           a record of accepted records
 -- Assumes nothing.
 use Prim.Native.Nat.{ℕ, zero, suc, _+_, _-_, _*_, _%_, _≤_, _<_, min}
 use mathlib.Core.Path.{_≡_, refl, sym, ap, _∙_, subst}
@@ -30,12 +30,23 @@ use Rattle.hours.specs.Inside.{datesHold, pairsHold, recordsThat, holding}
 use Rattle.hours.proofs.HoldsLaws.{spanAt, pairs-yes, pairs-no, holds-parts, holds-in, holds-out}
 use Rattle.hours_reader.proofs.RecordLaws.{pairs-each, hours-well}
 use Rattle.hours_reader.proofs.WalkLaws.{Passed, passed-none, passed-more, passed-end, passed-fine}
-use Rattle.hours_times.specs.Spans.{RecordReady, PhaseSpan, RecordSpan, RecordsSpan}
+use Rattle.hours_times.specs.Spans.{RecordReady, FirstEnding, PhaseSpan, RecordSpan, RecordsSpan}
 
 -- ---- pairs
--- the first j pairs end by phase x
-pub record Behind (s : List ℕ) (at x j : ℕ) : Type 0 where
-  pub each : (i : ℕ) → i < j → offsetAt s (at + 10) i + lengthAt s (at + 10) i ≤ x
+-- of the n pairs, those before `low` end by phase x, and those from `high` on after it
+pub record Halved (s : List ℕ) (at x n low high : ℕ) : Type 0 where
+  pub between : low ≤ high
+  pub most : high ≤ n
+  pub behind : (i : ℕ) → i < low → offsetAt s (at + 10) i + lengthAt s (at + 10) i ≤ x
+  pub ahead : high < n → x < offsetAt s (at + 10) high + lengthAt s (at + 10) high
+
+pub halved-none : (s : List ℕ) (at x n : ℕ) → Halved s at x n 0 n
+halved-none s at x n = record { between = omega arith; most = le-refl n; behind = λ i l. absurd (omega arith); ahead = λ l. absurd (omega arith) }
+
+pub halved-all : {s : List ℕ} {at x n low high : ℕ} → Halved s at x n low high → high ≤ low → FirstEnding s at x n low
+halved-all {s} {at} {x} {n} {low} {high} w l =
+    let e : high ≡ low = omega (arith, w .between) in
+    record { below = omega (arith, w .most); behind = w .behind; ends = subst (λ (j : ℕ). j < n → x < offsetAt s (at + 10) j + lengthAt s (at + 10) j) e (w .ahead) }
 
 module _ (s : List ℕ) (c at : ℕ) (w : RecordReady s c at) where
   pair-well : (i : ℕ) → i < pairsAt s at → PairWell c (earliest s (at + 10) i) (pairAt s (at + 10) i)
@@ -61,18 +72,34 @@ module _ (s : List ℕ) (c at : ℕ) (w : RecordReady s c at) where
       out i (inl l) = rw (lt-leb _ _ l) refl
       out i (inr l) = rw (le-ltb _ _ l, le-leb (offsetAt s (at + 10) i) y (omega arith)) refl
 
-  module _ (x j : ℕ) (b : Behind s at x j) where
-    pub behind-more : (o n : ℕ) → o ≡ offsetAt s (at + 10) j → n ≡ lengthAt s (at + 10) j → o + n ≤ x → Behind s at x (j + 1)
-    behind-more o n eo en l =
+  -- and so do their ends
+  ends-rise : (j i : ℕ) → j ≤ i → i < pairsAt s at
+      → offsetAt s (at + 10) j + lengthAt s (at + 10) j ≤ offsetAt s (at + 10) i + lengthAt s (at + 10) i
+  unfolding earliest
+  ends-rise j zero l m = let e : j ≡ 0 = omega arith in rw e (le-refl _)
+  ends-rise j (suc i) l m =
+      ⊎-elim
+      (λ (e : j ≡ suc i). rw e (le-refl _))
+      (λ (k : j < suc i). omega (arith, ends-rise j i (le-of-suc-le-suc k) (omega arith), pair-well (suc i) m .starts))
+      (eq-or-lt-of-le l)
+
+  -- pair j, between the two, ends after x or by it
+  module _ {x n low high : ℕ} (v : Halved s at x n low high) (count : n ≡ pairsAt s at) (j o e : ℕ) (a : low ≤ j) (b : j < high)
+      (eo : o ≡ offsetAt s (at + 10) j) (ee : e ≡ o + lengthAt s (at + 10) j) where
+    pub halved-low : x < e → Halved s at x n low j
+    halved-low l = record { between = a; most = omega (arith, v .most); behind = v .behind; ahead = λ z. omega (arith, eo, ee) }
+
+    pub halved-high : e ≤ x → Halved s at x n (j + 1) high
+    halved-high l =
         record {
-          each = λ i m.
-              ⊎-elim
-              (λ (e : i ≡ j). rw (e, ← eo, ← en) l)
-              (λ (k : i < j). b .each i k)
-              (eq-or-lt-of-le (omega arith));
+          between = omega arith;
+          most = v .most;
+          behind = λ i k. omega (arith, ends-rise i j (omega arith) (omega (arith, v .most)), eo, ee);
+          ahead = v .ahead;
         }
 
-    module _ (n : ℕ) (count : n ≡ pairsAt s at) where
+  module _ (x j : ℕ) where
+    module _ (n : ℕ) (count : n ≡ pairsAt s at) (b : FirstEnding s at x n j) where
       -- pair j begins after x
       pub reach-off : (o : ℕ) → j < n → o ≡ offsetAt s (at + 10) j → x < o → PhaseSpan c (hoursAt s at) x false o
       reach-off o l eo m =
@@ -82,17 +109,17 @@ module _ (s : List ℕ) (c at : ℕ) (w : RecordReady s c at) where
             is = λ y p q.
                 clear y
                 (λ i k. ⊎-elim
-                (λ (a : i < j). inr (omega (arith, b .each i a)))
+                (λ (a : i < j). inr (omega (arith, b .behind i a)))
                 (λ (a : j ≤ i). inl (omega (arith, rising j i a k, eo)))
                 (lt-or-le i j));
           }
 
       -- x is in pair j
-      pub reach-on : (o e : ℕ) → j < n → o ≡ offsetAt s (at + 10) j → o ≤ x → e ≡ o + lengthAt s (at + 10) j → x < e
+      pub reach-on : (o e : ℕ) → j < n → o ≡ offsetAt s (at + 10) j → o ≤ x → e ≡ o + lengthAt s (at + 10) j
           → PhaseSpan c (hoursAt s at) x true e
-      reach-on o e l eo m ee k =
+      reach-on o e l eo m ee =
           record {
-            after = k;
+            after = omega (arith, b .ends l, eo, ee);
             in-cycle = omega (arith, pair-well j (omega arith) .ends, eo, ee);
             is = λ y p q.
                 pairs-yes s at y n count j l
@@ -105,11 +132,8 @@ module _ (s : List ℕ) (c at : ℕ) (w : RecordReady s c at) where
           record {
             after = l;
             in-cycle = le-refl c;
-            is = λ y p q. clear y (λ i k. inr (omega (arith, b .each i (omega arith))));
+            is = λ y p q. clear y (λ i k. inr (omega (arith, b .behind i (omega arith))));
           }
-
-pub behind-none : (s : List ℕ) (at x : ℕ) → Behind s at x 0
-behind-none s at x = record { each = λ i l. absurd (omega arith) }
 
 -- ---- dates
 module _ (c : ℕ) (h : Hours) (t : ℕ) where
@@ -158,6 +182,9 @@ module _ (c : ℕ) (h : Hours) (t : ℕ) where
             sym (p .is (v % c) (omega arith) (omega arith)) ∙ z
 
 -- ---- records
+pub passed-ready : {s : List ℕ} {c from h at k : ℕ} → Passed s from h k at → inTurn (recordJudged s c from) h ≡ 0 → k < h → RecordReady s c at
+passed-ready {s} {c} {from} {h} {at} {k} w a l = let f = passed-fine w c a l in record { within = f .within; well = hours-well s c at (pairsBefore s from k) f }
+
 -- the walk is past k of the h records, and knows how far those in `only` that hold do so
 pub record Spanned (s : List ℕ) (c from h t only until era at k : ℕ) : Type 0 where
   pub passed : Passed s from h k at
@@ -225,4 +252,4 @@ module _ {s : List ℕ} {c from h t only until era at k : ℕ} (w : Spanned s c 
   spans-all l = subst (λ (n : ℕ). RecordsSpan s c from n t only until era) (passed-end (w .passed) l) (w .span)
 
   pub record-ready : inTurn (recordJudged s c from) h ≡ 0 → k < h → RecordReady s c at
-  record-ready a l = let f = passed-fine (w .passed) c a l in record { within = f .within; well = hours-well s c at (pairsBefore s from k) f }
+  record-ready = passed-ready (w .passed)

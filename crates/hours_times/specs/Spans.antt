@@ -9,7 +9,7 @@ use Rattle.bitset.specs.Sets.{has}
 use Rattle.minutes.specs.Minutes.{E}
 use Rattle.minutes.specs.Lasting.{Lasting}
 use Rattle.hours.specs.Hours.{Hours, holds}
-use Rattle.hours.specs.HoursBytes.{pairsAt, hoursAt}
+use Rattle.hours.specs.HoursBytes.{offsetAt, lengthAt, pairsAt, hoursAt}
 use Rattle.hours.specs.HoursWell.{HoursWell}
 use Rattle.hours.specs.Inside.{pairsHold, holding}
 
@@ -17,6 +17,12 @@ use Rattle.hours.specs.Inside.{pairsHold, holding}
 pub record RecordReady (s : List ℕ) (c at : ℕ) : Type 0 where
   pub within : at + 10 + 4 * pairsAt s at ≤ length s
   pub well : HoursWell c (hoursAt s at)
+
+-- of the n pairs of the record at `at`, those before pair j end by phase x, and pair j, where there is one, after it
+pub record FirstEnding (s : List ℕ) (at x n j : ℕ) : Type 0 where
+  pub below : j ≤ n
+  pub behind : (i : ℕ) → i < j → offsetAt s (at + 10) i + lengthAt s (at + 10) i ≤ x
+  pub ends : j < n → x < offsetAt s (at + 10) j + lengthAt s (at + 10) j
 
 -- `on` says whether phase x is in a pair of h, and each phase from x to before `stop` says the same
 pub record PhaseSpan (c : ℕ) (h : Hours) (x : ℕ) (on : Bool) (stop : ℕ) : Type 0 where

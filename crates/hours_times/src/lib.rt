@@ -1,11 +1,12 @@
-// How far hours records that hold at a minute go on holding: by their dates and pairs, with no walk over minutes.
+// Which hours records hold at a minute, and how far these go on holding: by their dates and pairs, with no walk over minutes.
 ghost use mathlib.Core.Path.{_≡_};
 ghost use Prim.Native.Nat.{_%_, _≤_, _<_};
 ghost use Rattle.ground.specs.Judgement.{inTurn};
 ghost use Rattle.minutes.specs.Minutes.{E};
-ghost use Rattle.hours.specs.HoursBytes.{hoursAt};
+ghost use Rattle.hours.specs.HoursBytes.{pairsAt, hoursAt};
 ghost use Rattle.hours.specs.HoursRefusals.{recordJudged};
-ghost use Rattle.hours_times.specs.Spans.{RecordReady, PhaseSpan, RecordSpan, RecordsSpan};
+ghost use Rattle.hours.specs.Inside.{holding};
+ghost use Rattle.hours_times.specs.Spans.{RecordReady, FirstEnding, PhaseSpan, RecordSpan, RecordsSpan};
 
 // Whether the phase is in a pair, and the phase before which that stays so.
 struct Reach {
@@ -26,33 +27,50 @@ pub struct Spans {
     pub era: u32,
 }
 
-// Of the record at `at`, at phase x. Pairs ascend, so the first that ends after x decides.
+// Of the n pairs of the record at `at`, the first that ends after phase x, or n. Pairs ascend, so half of those that are left are passed at a time.
+fn first_ending(s: &[u8], cycle: u32, at: usize, n: usize, x: u32) -> usize
+    requires { ⌜ RecordReady (now s) cycle at × (n ≡ pairsAt (now s) at) ⌝ }
+    ensures { λ j. ⌜ FirstEnding (now (s .entry)) at x n j ⌝ }
+{
+    let mut low = 0;
+    let mut high = n;
+    while low < high {
+        let j = low + (high - low) / 2;
+        let offset = endian::read16(s, at + 10 + 4 * j) as u32;
+        let end = offset + endian::read16(s, at + 10 + 4 * j + 2) as u32;
+        if x < end {
+            high = j;
+        } else {
+            low = j + 1;
+        }
+    }
+    low
+}
+
+// Of the record at `at`, at phase x: the first pair that ends after x decides.
 fn pairs_span(s: &[u8], cycle: u32, at: usize, x: u32) -> Reach
     requires { ⌜ RecordReady (now s) cycle at × (x < cycle) ⌝ }
     ensures { λ r. ⌜ PhaseSpan cycle (hoursAt (now (s .entry)) at) x (r .on) (r .stop) ⌝ }
 {
     let n = endian::read16(s, at + 8) as usize;
-    let mut j = 0;
-    while j < n {
-        let offset = endian::read16(s, at + 10 + 4 * j) as u32;
-        if x < offset {
-            return Reach {
-                on: false,
-                stop: offset,
-            };
-        }
-        let end = offset + endian::read16(s, at + 10 + 4 * j + 2) as u32;
-        if x < end {
-            return Reach {
-                on: true,
-                stop: end,
-            };
-        }
-        j += 1;
+    let j = first_ending(s, cycle, at, n, x);
+    if n <= j {
+        return Reach {
+            on: false,
+            stop: cycle,
+        };
     }
+    let offset = endian::read16(s, at + 10 + 4 * j) as u32;
+    if x < offset {
+        return Reach {
+            on: false,
+            stop: offset,
+        };
+    }
+    let end = offset + endian::read16(s, at + 10 + 4 * j + 2) as u32;
     Reach {
-        on: false,
-        stop: cycle,
+        on: true,
+        stop: end,
     }
 }
 
@@ -79,6 +97,26 @@ pub fn record_span(s: &[u8], cycle: u32, at: usize, t: u32, x: u32) -> Span
         until: minutes::END,
         era: minutes::END,
     }
+}
+
+// The numbers of the h records from `from` on that hold at minute t, of records that are not refused.
+pub fn records_on(s: &[u8], cycle: u32, from: usize, h: usize, t: u32) -> u64
+    requires { ⌜ (inTurn (recordJudged (now s) cycle from) h ≡ 0) × (h ≤ 32) × (0 < cycle) × (cycle ≤ 40320) × (t < E) ⌝ }
+    ensures { λ r. ⌜ r ≡ holding (now (s .entry)) cycle from h t ⌝ }
+{
+    let x = minutes::phase(cycle, t);
+    let mut set = 0;
+    let mut k = 0;
+    let mut at = from;
+    while k < h {
+        let r = record_span(s, cycle, at, t, x);
+        if r.on {
+            set = bitset::with(set, k as u32);
+        }
+        at = hours::next_record(s, at);
+        k += 1;
+    }
+    set
 }
 
 // Of those of the h records from `from` on that are in `only`, at minute t, of records that are not refused. The others are passed.

@@ -17,7 +17,7 @@ pub fn held_at(s: &[u8], l: Layout, hours: &[u64; 32], t: u32, among: u64) -> He
 {
     let n = l.counts;
     let h = n.hours as usize;
-    let set = hours_reader::holding_at(s, n.cycle, l.hours_at, h, t);
+    let set = hours_times::records_on(s, n.cycle, l.hours_at, h, t);
     let r = rota_rests::resting(s, l, hours, set, among);
     let span = hours_times::records_span(s, n.cycle, l.hours_at, h, t, r.on);
     Held {

@@ -8,8 +8,8 @@ use Rattle.rota_times.proofs.held_at.Tie as tie
 cast-h : tie.Need-cast-h
 cast-h c = search needs
 
-holding-at-requires : tie.Need-holding-at-requires
-holding-at-requires c κs = let p = c .before .before .before .pre in (records-fine _ _ (p .0), few-hours _ _ (p .0), some-cycle _ _ (p .0))
+records-on-requires : tie.Need-records-on-requires
+records-on-requires c κs = let p = c .before .before .before .pre in (records-fine _ _ (p .0), few-hours _ _ (p .0), some-cycle _ _ (p .0), cycle-most _ _ (p .0), p .2)
 
 resting-requires : tie.Need-resting-requires
 resting-requires c κs = search needs
@@ -18,8 +18,8 @@ records-span-requires : tie.Need-records-span-requires
 records-span-requires c κs = let p = c .before .before .before .before .before .pre in (records-fine _ _ (p .0), few-hours _ _ (p .0), some-cycle _ _ (p .0), cycle-most _ _ (p .0), p .2)
 
 returns : tie.Need-returns
-returns c = let p = c .before .before .before .before .before .before .pre in held _ _ (p .0) _ _ (p .2) (c .before .before .holding-at .ensures) (c .before .resting .ensures) (c .records-span .ensures)
+returns c = let p = c .before .before .before .before .before .before .pre in held _ _ (p .0) _ _ (p .2) (c .before .before .records-on .ensures) (c .before .resting .ensures) (c .records-span .ensures)
 
 pub held-at-spec : {M : Type 1} → statement M
 held-at-spec =
-    tie.close (tie.spec cast-h holding-at-requires resting-requires records-span-requires returns)
+    tie.close (tie.spec cast-h records-on-requires resting-requires records-span-requires returns)
