@@ -162,6 +162,8 @@ fn of_every_other_call() {
                     all.push(stack_of(NEAR, || service.open(lent, 0)));
                     all.push(stack_of(NEAR, || service.ask(lent, 0, 0)));
                     all.push(stack_of(NEAR, || service.close(lent, 0)));
+                    let mut sleeper = Service { now: at, open: 1 };
+                    all.push(stack_of(NEAR, || sleeper.advance(lent, at + 1_000_000)));
                 }
             }
         }
@@ -169,6 +171,6 @@ fn of_every_other_call() {
             all.push(stack_of(NEAR, || date(4_000_003 * day)));
             all.push(stack_of(NEAR, || minute(2001 + 8 * day, 2, 28 + day % 3, 23, 59)));
         }
-        assert!(most("every other call", &all) < 1_024);
+        assert!(most("every other call", &all) < 2_048);
     });
 }
