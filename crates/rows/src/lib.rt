@@ -55,7 +55,9 @@ fn before(a: usize, b: usize, step: usize) -> usize
 }
 
 // The next step: each about twice the one before.
-fn wider(step: usize) -> usize {
+fn wider(step: usize) -> usize
+    ensures { λ r. ⌜ step ≤ r ⌝ }
+{
     if step < 4294967296 {
         2 * step + 1
     } else {

@@ -2,7 +2,7 @@
 // that go on where it stops. Nothing is taken away by a row that begins, so no other row counts.
 ghost use mathlib.Core.Path.{_≡_};
 ghost use mathlib.Core.Bool.{true};
-ghost use Prim.Native.Nat.{_+_, _%_, _≤_, _<_};
+ghost use Prim.Native.Nat.{_+_, _*_, _%_, _≤_, _<_};
 ghost use Rattle.minutes.specs.Minutes.{E};
 ghost use Rattle.policy.specs.Policy.{holdersAt};
 ghost use Rattle.policy.specs.Held.{HeldAmong};
@@ -130,11 +130,15 @@ fn with_row(
 }
 
 // A row and a minute in one number, and from it the row to look at first at minute t: the row itself before that minute, else the next.
-fn place(row: usize, until: u32) -> u64 {
+fn place(row: usize, until: u32) -> u64
+    ensures { λ r. ⌜ 4294967296 * until ≤ r ⌝ }
+{
     (row % 4294967296) as u64 + 4294967296 * (until as u64)
 }
 
-fn guess(place: u64, t: u32) -> usize {
+fn guess(place: u64, t: u32) -> usize
+    ensures { λ r. ⌜ r ≤ 4294967296 ⌝ }
+{
     let row = (place % 4294967296) as usize;
     if (place / 4294967296) as u32 <= t {
         row + 1

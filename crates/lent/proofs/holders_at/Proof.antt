@@ -1,4 +1,5 @@
 use mathlib.Core.Path.{_∙_}
+use native.Mathlib.Omega.{arith}
 use borrow.Author.Needs.{needs}
 use Rattle.lent.proofs.LentLaws.{as-rota, as-table, holders-as}
 use Rattle.lent.proofs.holders_at.Statement.{statement}
@@ -18,7 +19,7 @@ enum-known-source-2 c = search needs
 holders-at-requires : tie.Need-holders-at-requires
 holders-at-requires c κs =
     let p = c .before .before .before .before .pre in
-    (as-table (p .0) (c .before .source2 .given .1), p .1)
+    (as-table (p .0) (c .before .source2 .given .1), omega (arith, p .1))
 
 returns : tie.Need-returns
 returns c = c .holders-in .ensures ∙ holders-as _ _ (c .before .before .source .given .1)
