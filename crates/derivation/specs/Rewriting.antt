@@ -23,6 +23,7 @@ use Rattle.table.specs.Table.{Entry, Row, Table}
 use Rattle.table.specs.TableBytes.{tableBytes}
 use Rattle.derivation.specs.Cuts.{Gap, sortInto, gaps}
 use Rattle.derivation.specs.Distinct.{addAll, placeOf}
+use Rattle.derivation.specs.Joined.{joinRows}
 
 -- every begin and end of all hours
 unfoldable pub hoursCuts : List Hours → List ℕ
@@ -111,8 +112,8 @@ entriesOf ks = addAll same [] (map (λ (k : Kept). k .entry) ks)
 abbrev pub rowOf : List Entry → Kept → Row
 rowOf es k = record { derived = placeOf same (k .entry) es; window = k .field }
 
-unfoldable pub rewrite : Rota → Table
-rewrite ρ =
+unfoldable pub unjoined : Rota → Table
+unjoined ρ =
     record {
       cycle = ρ .cycle;
       users = ρ .users;
@@ -121,6 +122,12 @@ rewrite ρ =
       entries = entriesOf (kept ρ);
       rows = map (rowOf (entriesOf (kept ρ))) (kept ρ);
     }
+
+-- and neighbouring rows that touch are written as one (document 02, item 4)
+unfoldable pub rewrite : Rota → Table
+rewrite ρ =
+    let τ = unjoined ρ in
+    record { cycle = τ .cycle; users = τ .users; permissions = τ .permissions; roles = τ .roles; entries = τ .entries; rows = joinRows (τ .rows) }
 
 -- the length of a table's bytes
 unfoldable pub sizeOf : Table → ℕ

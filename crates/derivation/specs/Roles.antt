@@ -8,6 +8,7 @@ use Rattle.minutes.specs.Minutes.{Window}
 use Rattle.rota.specs.Rota.{Rota}
 use Rattle.table.specs.Table.{Entry, Row, Table}
 use Rattle.derivation.specs.Distinct.{addNew, placeOf}
+use Rattle.derivation.specs.Joined.{joinRows}
 use Rattle.derivation.specs.Rewriting.{fields, Kept, keptOf, same, entriesOf}
 
 -- the derived roles of role r
@@ -31,6 +32,14 @@ unfoldable pub rowsFrom : Rota → ℕ → ℕ → ℕ → List Row
 rowsFrom ρ zero r base = []
 rowsFrom ρ (suc n) r base = rowsAt ρ r base ++ rowsFrom ρ n (suc r) (base + length (entriesAt ρ r))
 
+-- the same with the rows that touch joined: no row touches one of another role
+unfoldable pub joinedAt : Rota → ℕ → ℕ → List Row
+joinedAt ρ r base = joinRows (rowsAt ρ r base)
+
+unfoldable pub joinedFrom : Rota → ℕ → ℕ → ℕ → List Row
+joinedFrom ρ zero r base = []
+joinedFrom ρ (suc n) r base = joinedAt ρ r base ++ joinedFrom ρ n (suc r) (base + length (entriesAt ρ r))
+
 -- the table of the roles from `first` on, up to `end`, with the header of the whole rota's table
 unfoldable pub rewriteRoles : Rota → ℕ → ℕ → Table
 rewriteRoles ρ first end =
@@ -40,7 +49,7 @@ rewriteRoles ρ first end =
       permissions = ρ .permissions;
       roles = length (ρ .roles);
       entries = entriesFrom ρ (end - first) first;
-      rows = rowsFrom ρ (end - first) first 0;
+      rows = joinedFrom ρ (end - first) first 0;
     }
 
 -- the derived roles after one more field, and the field's mark: 0 where it is not kept, else one more than the place of its derived role
