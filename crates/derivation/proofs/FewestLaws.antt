@@ -22,7 +22,7 @@ use Rattle.rota.specs.Rota as rota
 use Rattle.rota.specs.RotaWell.{RotaWell}
 use Rattle.table.specs.Table.{Entry, Table}
 use Rattle.table.specs.Table as table
-use Rattle.derivation.specs.Rewriting.{usersAt, permissionsAt, derivedAt, active, Kept, kept, entriesOf, rewrite}
+use Rattle.derivation.specs.Rewriting.{usersAt, permissionsAt, derivedAt, active, Kept, kept, entriesOf, unjoined}
 use Rattle.derivation.specs.Untimed.{Untimed, onFor, grants, countOf, untimedAt, untimedOf, Rival}
 use Rattle.derivation.proofs.KeptLaws.{KeptAt, kept-minute}
 use Rattle.derivation.proofs.KeptListLaws.{kept-out}
@@ -82,8 +82,8 @@ module _ (n m : ℕ) (f f′ g g′ : ℕ → Bool) (pairs : (x y : ℕ) → x <
 
 module _ (ρ : Rota) (w : RotaWell ρ) where
   -- each entry comes from a minute
-  entry-minute : (e : Entry) → List·Memᴰ e (rewrite ρ .entries) → (f : Window) × KeptAt ρ (e .source) f e
-  unfolding rewrite entriesOf
+  entry-minute : (e : Entry) → List·Memᴰ e (unjoined ρ .entries) → (f : Window) × KeptAt ρ (e .source) f e
+  unfolding unjoined entriesOf
   entry-minute e m =
       ⊎-elim (λ k. absurd (List·Memᴰ·not-nil k)) (λ k. of-kept (Memᴰ·of-map (λ (z : Kept). z .entry) (kept ρ) k))
       (added-out same-decides [] (map (λ (z : Kept). z .entry) (kept ρ)) e m)
@@ -96,25 +96,25 @@ module _ (ρ : Rota) (w : RotaWell ρ) where
           let s : r .0 ≡ e .source = ap (λ (x : Entry). x .source) (a .is) in
           (k .field, subst (λ (q : ℕ). KeptAt ρ q (k .field) e) s a)
 
-  distinct-entries : Distinct (rewrite ρ .entries)
-  unfolding rewrite entriesOf
+  distinct-entries : Distinct (unjoined ρ .entries)
+  unfolding unjoined entriesOf
   distinct-entries = added-distinct same-decides [] (map (λ (z : Kept). z .entry) (kept ρ)) tt
 
   on-through : (r t u p : ℕ) → enabled ρ r t ≡ true → rota.through ρ u p t r ≡ (hasUser ρ u r t && hasPermission ρ p r t)
   unfolding rota.through
   on-through r t u p h = rw h
 
-  module _ (r : ℕ) (hr : r < length (ρ .roles)) (os : List Untimed) (rival : Rival (rewrite ρ) r os) where
+  module _ (r : ℕ) (hr : r < length (ρ .roles)) (os : List Untimed) (rival : Rival (unjoined ρ) r os) where
     -- the rival's one derived role at a minute at which r is active
     partner-at : (e : Entry) (t : ℕ) → t < E → active ρ r t ≡ true → derivedAt ρ r t ≡ e → Match (λ (o : Untimed). eqb (o .source) r) (Serves ρ r) os e
-    unfolding grants rewrite
+    unfolding grants unjoined
     partner-at e t ht on is = of-rival (some-out (λ (o : Untimed). onFor r t o && o .user (a .user .0) && o .permission (a .permission .0)) os granted)
       where
         a : Active ρ r t
         a = active-out ρ r t on
 
         pairs : (u p : ℕ) → u < ρ .users → p < ρ .permissions → grants os r t u p ≡ (hasUser ρ u r t && hasPermission ρ p r t)
-        pairs u p hu hp = rival .same-pairs t u p ht hu hp ∙ grants-own (rewrite ρ) r t u p ∙ through-same ρ w u p t r hu hp ht hr ∙ on-through r t u p (a .on)
+        pairs u p hu hp = rival .same-pairs t u p ht hu hp ∙ grants-own (unjoined ρ) r t u p ∙ through-same ρ w u p t r hu hp ht hr ∙ on-through r t u p (a .on)
 
         granted : grants os r t (a .user .0) (a .permission .0) ≡ true
         granted = pairs _ _ (a .user .1) (a .permission .1) ∙ and-both _ _ (a .user .2) (a .permission .2)
@@ -155,9 +155,9 @@ module _ (ρ : Rota) (w : RotaWell ρ) where
             → (hasUser ρ u r (a .minute) && hasPermission ρ p r (a .minute)) ≡ (hasUser ρ u r (b .minute) && hasPermission ρ p r (b .minute))
         both u p hu hp = sym (a .pairs u p hu hp) ∙ b .pairs u p hu hp
 
-    pub no-fewer : countOf (λ (e : Entry). eqb (e .source) r) (rewrite ρ .entries) ≤ countOf (λ (o : Untimed). eqb (o .source) r) os
+    pub no-fewer : countOf (λ (e : Entry). eqb (e .source) r) (unjoined ρ .entries) ≤ countOf (λ (o : Untimed). eqb (o .source) r) os
     no-fewer =
-        pigeon (λ (e : Entry). eqb (e .source) r) (λ (o : Untimed). eqb (o .source) r) (Serves ρ r) serves-one (rewrite ρ .entries) distinct-entries os
+        pigeon (λ (e : Entry). eqb (e .source) r) (λ (o : Untimed). eqb (o .source) r) (Serves ρ r) serves-one (unjoined ρ .entries) distinct-entries os
         (λ e m h. served e (eqb-true (e .source) r h) (entry-minute e m))
       where
         served : (e : Entry) → e .source ≡ r → (f : Window) × KeptAt ρ (e .source) f e → Match (λ (o : Untimed). eqb (o .source) r) (Serves ρ r) os e

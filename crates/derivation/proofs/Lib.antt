@@ -1,3 +1,5 @@
+pub mod JoinLaws
+pub mod RunLaws
 pub mod ValueLaws
 pub mod TableCuts
 pub mod TableDistinct

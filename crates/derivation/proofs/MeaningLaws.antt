@@ -27,7 +27,7 @@ use Rattle.rota.specs.RotaWell.{RotaWell}
 use Rattle.table.specs.Table.{Entry, Row, Table, noEntry, entryAt}
 use Rattle.table.specs.Table as table
 use Rattle.derivation.specs.Distinct.{placeOf}
-use Rattle.derivation.specs.Rewriting.{usersAt, permissionsAt, derivedAt, active, keptAs, Kept, kept, same, entriesOf, rowOf, rewrite}
+use Rattle.derivation.specs.Rewriting.{usersAt, permissionsAt, derivedAt, active, keptAs, Kept, kept, same, entriesOf, rowOf, unjoined}
 use Rattle.derivation.proofs.FieldLaws.{field-find}
 use Rattle.derivation.proofs.KeptLaws.{kept-is}
 use Rattle.derivation.proofs.KeptListLaws.{kept-in, kept-out}
@@ -86,20 +86,20 @@ pick-some false x e h = let z : _≡_ {A = ℕ} 0 1 = cc in absurd (omega arith)
 
 -- derived role i is enabled at t
 pub record Enabled (ρ : Rota) (i t : ℕ) : Type 0 where
-  pub below : i < length (rewrite ρ .entries)
-  pub source-below : entryAt (rewrite ρ) i .source < length (ρ .roles)
-  pub on : active ρ (entryAt (rewrite ρ) i .source) t ≡ true
-  pub is : derivedAt ρ (entryAt (rewrite ρ) i .source) t ≡ entryAt (rewrite ρ) i
-  pub place : i ≡ placeOf same (entryAt (rewrite ρ) i) (rewrite ρ .entries)
+  pub below : i < length (unjoined ρ .entries)
+  pub source-below : entryAt (unjoined ρ) i .source < length (ρ .roles)
+  pub on : active ρ (entryAt (unjoined ρ) i .source) t ≡ true
+  pub is : derivedAt ρ (entryAt (unjoined ρ) i .source) t ≡ entryAt (unjoined ρ) i
+  pub place : i ≡ placeOf same (entryAt (unjoined ρ) i) (unjoined ρ .entries)
 
 module _ (ρ : Rota) (w : RotaWell ρ) where
   entry-in : (k : Kept) → List·Memᴰ k (kept ρ) → List·Memᴰ (k .entry) (entriesOf (kept ρ))
   unfolding entriesOf
   entry-in k m = added-in same-decides [] (map (λ (z : Kept). z .entry) (kept ρ)) (k .entry) (inr (Memᴰ·map (λ (z : Kept). z .entry) m))
 
-  pub sound : (i t : ℕ) → table.enabled (rewrite ρ) i t ≡ true → Enabled ρ i t
-  unfolding table.enabled rewrite
-  sound i t h = row (some-out (λ (x : Row). eqb (x .derived) i && covers (ρ .cycle) (x .window) t) (rewrite ρ .rows) h)
+  pub sound : (i t : ℕ) → table.enabled (unjoined ρ) i t ≡ true → Enabled ρ i t
+  unfolding table.enabled unjoined
+  sound i t h = row (some-out (λ (x : Row). eqb (x .derived) i && covers (ρ .cycle) (x .window) t) (unjoined ρ .rows) h)
     where
       es : List Entry
       es = entriesOf (kept ρ)
@@ -120,7 +120,7 @@ module _ (ρ : Rota) (w : RotaWell ρ) where
             place = sym e ∙ ap (λ (x : Entry). placeOf same x es) (sym here);
           }
 
-      row : (x : Row) × List·Memᴰ x (rewrite ρ .rows) × ((eqb (x .derived) i && covers (ρ .cycle) (x .window) t) ≡ true) → Enabled ρ i t
+      row : (x : Row) × List·Memᴰ x (unjoined ρ .rows) × ((eqb (x .derived) i && covers (ρ .cycle) (x .window) t) ≡ true) → Enabled ρ i t
       row r =
           let x : Row = r .0 in
           let k : (k : Kept) × List·Memᴰ k (kept ρ) × (rowOf es k ≡ x) = Memᴰ·of-map (rowOf es) (kept ρ) (r .1) in
@@ -129,12 +129,12 @@ module _ (ρ : Rota) (w : RotaWell ρ) where
 
   pub record Found (r t : ℕ) : Type 0 where
     pub index : ℕ
-    pub below : index < length (rewrite ρ .entries)
-    pub is : entryAt (rewrite ρ) index ≡ derivedAt ρ r t
-    pub on : table.enabled (rewrite ρ) index t ≡ true
+    pub below : index < length (unjoined ρ .entries)
+    pub is : entryAt (unjoined ρ) index ≡ derivedAt ρ r t
+    pub on : table.enabled (unjoined ρ) index t ≡ true
 
   pub complete : (r t : ℕ) → r < length (ρ .roles) → t < E → active ρ r t ≡ true → Found r t
-  unfolding table.enabled rewrite
+  unfolding table.enabled unjoined
   complete r t hr ht a =
       let z = field-find ρ w t ht in
       let k : Kept = record { entry = derivedAt ρ r t; field = z .0 } in
@@ -153,25 +153,25 @@ module _ (ρ : Rota) (w : RotaWell ρ) where
       }
 
   -- the same, of a derived role of r
-  module _ (i r t : ℕ) (h : table.enabled (rewrite ρ) i t ≡ true) (e : entryAt (rewrite ρ) i .source ≡ r) where
+  module _ (i r t : ℕ) (h : table.enabled (unjoined ρ) i t ≡ true) (e : entryAt (unjoined ρ) i .source ≡ r) where
     pub of-active : active ρ r t ≡ true
     of-active = subst (λ (q : ℕ). active ρ q t ≡ true) e (sound i t h .on)
 
-    pub of-is : derivedAt ρ r t ≡ entryAt (rewrite ρ) i
+    pub of-is : derivedAt ρ r t ≡ entryAt (unjoined ρ) i
     of-is = ap (λ (q : ℕ). derivedAt ρ q t) (sym e) ∙ sound i t h .is
 
-    pub of-place : i ≡ placeOf same (derivedAt ρ r t) (rewrite ρ .entries)
-    of-place = sound i t h .place ∙ ap (λ (x : Entry). placeOf same x (rewrite ρ .entries)) (sym of-is)
+    pub of-place : i ≡ placeOf same (derivedAt ρ r t) (unjoined ρ .entries)
+    of-place = sound i t h .place ∙ ap (λ (x : Entry). placeOf same x (unjoined ρ .entries)) (sym of-is)
 
   -- ---- the answers
 
   pub through-same : (u p t r : ℕ) → u < ρ .users → p < ρ .permissions → t < E → r < length (ρ .roles)
-      → table.through (rewrite ρ) u p t r ≡ rota.through ρ u p t r
+      → table.through (unjoined ρ) u p t r ≡ rota.through ρ u p t r
   unfolding table.through rota.through
   through-same u p t r hu hp ht hr = eq-ext (anyBelow (length (τ .entries)) test) _ (λ h. down (any-out (length (τ .entries)) test h)) up
     where
       τ : Table
-      τ = rewrite ρ
+      τ = unjoined ρ
 
       test : ℕ → Bool
       test i = eqb (entryAt τ i .source) r && table.enabled τ i t && has (entryAt τ i .users) u && has (entryAt τ i .permissions) p
@@ -207,6 +207,6 @@ module _ (ρ : Rota) (w : RotaWell ρ) where
           (users-are i (sym (k .is)) ∙ b))
           (permissions-are i (sym (k .is)) ∙ c))
 
-  pub answer-same : (u p t : ℕ) → u < ρ .users → p < ρ .permissions → t < E → table.answer (rewrite ρ) u p t ≡ rota.answer ρ u p t
-  unfolding table.answer rota.answer rewrite
+  pub answer-same : (u p t : ℕ) → u < ρ .users → p < ρ .permissions → t < E → table.answer (unjoined ρ) u p t ≡ rota.answer ρ u p t
+  unfolding table.answer rota.answer unjoined
   answer-same u p t hu hp ht = lowest-same (length (ρ .roles)) _ _ (λ r hr. through-same u p t r hu hp ht hr)

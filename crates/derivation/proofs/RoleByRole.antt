@@ -17,7 +17,7 @@ use Rattle.ground.specs.Sequence.{All}
 use Rattle.rota.specs.Rota.{Rota}
 use Rattle.table.specs.Table.{Entry}
 use Rattle.derivation.specs.Distinct.{addAll, placeOf}
-use Rattle.derivation.specs.Rewriting.{fields, Kept, keptOf, keptFrom, kept, same, entriesOf, rowOf, rewrite}
+use Rattle.derivation.specs.Rewriting.{fields, Kept, keptOf, keptFrom, kept, same, entriesOf, rowOf, unjoined}
 use Rattle.derivation.specs.Roles.{entriesAt, rowAt, rowsAt, entriesFrom, rowsFrom, rewriteRoles}
 use Rattle.derivation.proofs.TableDistinct.{there, addAll-append, addAll-skip, place-more, place-skip}
 use Rattle.derivation.proofs.TableKept.{entry, other-source, entries-there, entries-all, DerivedOf, keptOf-entries, keptFrom-source}
@@ -80,22 +80,22 @@ module _ (ρ : Rota) where
       ∙ ap (rowsFrom ρ n (suc r)) (length-append old es))
 
   -- the table's entries and rows
-  pub entries-by-role : rewrite ρ .entries ≡ entriesFrom ρ (length (ρ .roles)) 0
-  unfolding rewrite kept
+  pub entries-by-role : unjoined ρ .entries ≡ entriesFrom ρ (length (ρ .roles)) 0
+  unfolding unjoined kept
   entries-by-role = entries-are (length (ρ .roles)) 0
 
-  pub rows-by-role : rewrite ρ .rows ≡ rowsFrom ρ (length (ρ .roles)) 0 0
-  unfolding rewrite kept
+  pub rows-by-role : unjoined ρ .rows ≡ rowsFrom ρ (length (ρ .roles)) 0 0
+  unfolding unjoined kept
   rows-by-role =
       ap (λ (es : List Entry). map (rowOf es) (keptFrom ρ (length (ρ .roles)) 0)) (entries-are (length (ρ .roles)) 0)
       ∙ rows-are (length (ρ .roles)) 0 [] tt
 
-  pub by-roles : rewrite ρ ≡ rewriteRoles ρ 0 (length (ρ .roles))
-  unfolding rewriteRoles rewrite
+  pub by-roles : unjoined ρ ≡ rewriteRoles ρ 0 (length (ρ .roles))
+  unfolding rewriteRoles unjoined
   by-roles =
       let e : length (ρ .roles) ≡ length (ρ .roles) - 0 = omega arith in
-      let es : rewrite ρ .entries ≡ entriesFrom ρ (length (ρ .roles) - 0) 0 = entries-by-role ∙ ap (λ (k : ℕ). entriesFrom ρ k 0) e in
-      let ws : rewrite ρ .rows ≡ rowsFrom ρ (length (ρ .roles) - 0) 0 0 = rows-by-role ∙ ap (λ (k : ℕ). rowsFrom ρ k 0 0) e in
+      let es : unjoined ρ .entries ≡ entriesFrom ρ (length (ρ .roles) - 0) 0 = entries-by-role ∙ ap (λ (k : ℕ). entriesFrom ρ k 0) e in
+      let ws : unjoined ρ .rows ≡ rowsFrom ρ (length (ρ .roles) - 0) 0 0 = rows-by-role ∙ ap (λ (k : ℕ). rowsFrom ρ k 0 0) e in
       λ i. record { cycle = ρ .cycle; users = ρ .users; permissions = ρ .permissions; roles = length (ρ .roles); entries = es i; rows = ws i }
 
   -- one role more of `roles`, and none left: what a loop over the roles has still to do

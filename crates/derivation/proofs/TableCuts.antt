@@ -1,6 +1,7 @@
 -- Laws of values that are sorted and without repeats, and of the gaps between neighbours.
 --     sort-all, sort-length                  what holds of all values; how many
 --     gaps-fit, gaps-apart, gaps-length      each gap from a value to a greater one; each before the next; how many
+--     gapsFrom-low                           none begins before the first value
 -- Assumes nothing.
 use Rattle.ground.proofs.ListLaws.{Pairwise}
 use Prim.Native.Nat.{ℕ, suc, _+_, _-_, _≤_, _<_}
@@ -47,7 +48,7 @@ unfolding gapsFrom
 gapsFrom-fit top a [] s p = tt
 gapsFrom-fit top a (x ∷ l) s p = ((s .0, p .0), gapsFrom-fit top x l (s .1) (p .1))
 
-gapsFrom-low : (b a : ℕ) (l : List ℕ) → b ≤ a → Above a l → All (λ (g : Gap). b ≤ g .low) (gapsFrom a l)
+pub gapsFrom-low : (b a : ℕ) (l : List ℕ) → b ≤ a → Above a l → All (λ (g : Gap). b ≤ g .low) (gapsFrom a l)
 unfolding gapsFrom
 gapsFrom-low b a [] h s = tt
 gapsFrom-low b a (x ∷ l) h s = (h, gapsFrom-low b x l (omega (arith, s .0)) (s .1))

@@ -32,7 +32,7 @@ abbrev pub Before : Window → Window → Type 0
 Before f g = ((f .begin ≡ g .begin) × (f .end ≡ g .end) × (f .offset + f .length ≤ g .offset)) ⊎ (f .end ≤ g .begin)
 
 -- what holds of all fields, from what holds of all eras and of all cells
-fieldsOf-all : {P Q : Gap → Type 0} (R : Window → Type 0) → ((e c : Gap) → P e → Q c → R (fieldOf e c))
+pub fieldsOf-all : {P Q : Gap → Type 0} (R : Window → Type 0) → ((e c : Gap) → P e → Q c → R (fieldOf e c))
     → (es cs : List Gap) → All P es → All Q cs → All R (fieldsOf es cs)
 unfolding fieldsOf
 fieldsOf-all R h [] cs p q = tt
