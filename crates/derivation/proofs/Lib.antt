@@ -1,5 +1,6 @@
 pub mod JoinLaws
 pub mod RunLaws
+pub mod SetLaws
 pub mod ValueLaws
 pub mod TableCuts
 pub mod TableDistinct
