@@ -31,7 +31,7 @@ use Rattle.derivation.proofs.MeaningLaws.{same-decides, Active, active-
 use Rattle.derivation.proofs.CountingLaws.{count-one, Match, pigeon}
 
 -- what a table grants for a role is what it answers through that role
-grants-own : (τ : Table) (r t u p : ℕ) → grants (untimedOf τ) r t u p ≡ table.through τ u p t r
+pub grants-own : (τ : Table) (r t u p : ℕ) → grants (untimedOf τ) r t u p ≡ table.through τ u p t r
 unfolding grants table.through
 grants-own τ r t u p = list-any (λ (o : Untimed). onFor r t o && o .user u && o .permission p) (length (τ .entries)) (untimedAt τ)
 

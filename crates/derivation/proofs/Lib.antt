@@ -1,6 +1,3 @@
-pub mod JoinLaws
-pub mod RunLaws
-pub mod SetLaws
 pub mod ValueLaws
 pub mod TableCuts
 pub mod TableDistinct
@@ -8,8 +5,13 @@ pub mod TableKept
 pub mod TableFields
 pub mod TableOrder
 pub mod TableRewritten
+pub mod JoinLaws
+pub mod JoinedOrder
+pub mod Joining
 pub mod RoleByRole
 pub mod RoleMarks
+pub mod SetLaws
+pub mod RunLaws
 pub mod CutLaws
 pub mod ConstancyLaws
 pub mod FieldLaws

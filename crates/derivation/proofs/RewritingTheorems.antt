@@ -24,7 +24,7 @@ use Rattle.rota.specs.RotaWell.{RotaWell}
 use Rattle.rota.proofs.AlikeLaws.{alike-enabled, alike-user, alike-permission}
 use Rattle.table.specs.Table.{Entry}
 use Rattle.table.specs.Table as table
-use Rattle.derivation.specs.Rewriting.{fields, derivedAt, active, keptAs, Kept, kept, rewrite}
+use Rattle.derivation.specs.Rewriting.{fields, derivedAt, active, keptAs, Kept, kept, unjoined, rewrite}
 use Rattle.derivation.specs.Masks.{maskOf, keptIn}
 use Rattle.derivation.specs.Constancy.{SameAt}
 use Rattle.derivation.specs.Worked.{example, field}
@@ -36,6 +36,7 @@ use Rattle.derivation.proofs.KeptLaws.{kept-closed}
 use Rattle.derivation.proofs.MaskLaws.{mask-kept}
 use Rattle.derivation.proofs.MeaningLaws.{Active, active-in, active-out, Found, complete, of-active, of-is, of-place, through-same, answer-same}
 use Rattle.derivation.proofs.FewestLaws.{no-fewer}
+use Rattle.derivation.proofs.Joining.{joined-same, joined-through, joined-answer, joined-rival}
 use Rattle.derivation.proofs.WorkedField.{field-in, not-kept, not-among}
 
 -- `active` of the rules says just this
@@ -85,31 +86,36 @@ module _ {ρ : Rota} (w : RotaWell ρ) where
 
   -- the table has at each minute, of each role, the derived role that the role is then
   pub means : (r t : ℕ) → r < length (ρ .roles) → t < E → MeansAt ρ (rewrite ρ) r t
+  unfolding rewrite
   means r t hr ht =
       record {
-        at-most-one = λ i j a b. of-place ρ w i r t (a .on) (a .source) ∙ sym (of-place ρ w j r t (b .on) (b .source));
+        at-most-one = λ i j a b. of-place ρ w i r t (before i (a .on)) (a .source) ∙ sym (of-place ρ w j r t (before j (b .on)) (b .source));
         exactly = (
-          (λ z. active-means ρ r t .0 (of-active ρ w (z .0) r t (z .1 .on) (z .1 .source))),
+          (λ z. active-means ρ r t .0 (of-active ρ w (z .0) r t (before (z .0) (z .1 .on)) (z .1 .source))),
           (λ h.
               let k : Found ρ w r t = complete ρ w r t hr ht (active-means ρ r t .1 h) in
-              (k .index, record { below = k .below; source = ap (λ (x : Entry). x .source) (k .is); on = k .on })),
+              (k .index, record { below = k .below; source = ap (λ (x : Entry). x .source) (k .is); on = joined-same ρ (k .index) t ∙ k .on })),
         );
-        users = λ i a. ap (λ (x : Entry). x .users) (sym (of-is ρ w i r t (a .on) (a .source)));
-        permissions = λ i a. ap (λ (x : Entry). x .permissions) (sym (of-is ρ w i r t (a .on) (a .source)));
+        users = λ i a. ap (λ (x : Entry). x .users) (sym (of-is ρ w i r t (before i (a .on)) (a .source)));
+        permissions = λ i a. ap (λ (x : Entry). x .permissions) (sym (of-is ρ w i r t (before i (a .on)) (a .source)));
       }
+    where
+      before : (i : ℕ) → table.enabled (rewrite ρ) i t ≡ true → table.enabled (unjoined ρ) i t ≡ true
+      before i h = sym (joined-same ρ i t) ∙ h
 
   -- the table answers as the rota does, through each role and in all
   pub same-through : (u p t r : ℕ) → u < ρ .users → p < ρ .permissions → t < E → r < length (ρ .roles)
       → table.through (rewrite ρ) u p t r ≡ rota.through ρ u p t r
-  same-through = through-same ρ w
+  same-through u p t r hu hp ht hr = joined-through ρ u p t r ∙ through-same ρ w u p t r hu hp ht hr
 
   pub same-answer : (u p t : ℕ) → u < ρ .users → p < ρ .permissions → t < E → table.answer (rewrite ρ) u p t ≡ rota.answer ρ u p t
-  same-answer = answer-same ρ w
+  same-answer u p t hu hp ht = joined-answer ρ u p t ∙ answer-same ρ w u p t hu hp ht
 
   -- no list of untimed derived roles that grants the same and enables one of r at a time has fewer of r
   pub fewest : (r : ℕ) → r < length (ρ .roles) → (os : List Untimed) → Rival (rewrite ρ) r os
       → countOf (λ (e : Entry). eqb (e .source) r) (rewrite ρ .entries) ≤ countOf (λ (o : Untimed). eqb (o .source) r) os
-  fewest = no-fewer ρ w
+  unfolding rewrite
+  fewest r hr os h = no-fewer ρ w r hr os (joined-rival ρ r os h)
 
 -- with C 10, hours (3, 5, pair (0, 10)) and (0, E, pair (6, 2)): era 3 to 5 with cell 6 to 8 is a field, and no kept field
 pub worked-field : List·Memᴰ field (fields example) × (keptAs example 0 field ≡ none) × ((k : Kept) → List·Memᴰ k (kept example) → k .field ≡ field → ⊥)

@@ -1,11 +1,11 @@
 -- The rewriting role by role, as a loop over the roles goes about it: the table's entries are those of the roles in order, and so are its rows,
 -- with each role's derived roles counted on from those of the roles before.
---     entries-by-role, rows-by-role  they are the table's
---     by-roles                       the table is that of the roles from the first to the last
+--     entries-by-role, rows-by-role  they are the table's, before rows that touch are joined
+--     joined-by-role, by-roles       the table is that of the roles from the first to the last
 --     entries-next, rows-next        one role more; entries-none, rows-none where no role is left
 --     entriesAt-derived              what holds of one role's derived roles
 -- Assumes nothing.
-use Rattle.ground.proofs.ListLaws.{all-append, all-map, all-with, all-both, map-same}
+use Rattle.ground.proofs.ListLaws.{all-append, all-map, all-with, all-both, all-unit, map-same}
 use Prim.Native.Nat.{ℕ, zero, suc, _+_, _-_, _≤_, _<_}
 use mathlib.Core.Path.{_≡_, refl, sym, ap, ap₂, _∙_}
 use mathlib.Core.Bool.{true, false}
@@ -15,11 +15,13 @@ use native.Mathlib.Omega.{arith}
 use lib.ListN.{length, length-append}
 use Rattle.ground.specs.Sequence.{All}
 use Rattle.rota.specs.Rota.{Rota}
-use Rattle.table.specs.Table.{Entry}
+use Rattle.table.specs.Table.{Entry, Row}
 use Rattle.derivation.specs.Distinct.{addAll, placeOf}
-use Rattle.derivation.specs.Rewriting.{fields, Kept, keptOf, keptFrom, kept, same, entriesOf, rowOf, unjoined}
-use Rattle.derivation.specs.Roles.{entriesAt, rowAt, rowsAt, entriesFrom, rowsFrom, rewriteRoles}
-use Rattle.derivation.proofs.TableDistinct.{there, addAll-append, addAll-skip, place-more, place-skip}
+use Rattle.derivation.specs.Joined.{joinRows}
+use Rattle.derivation.specs.Rewriting.{fields, Kept, keptOf, keptFrom, kept, same, entriesOf, rowOf, unjoined, rewrite}
+use Rattle.derivation.specs.Roles.{entriesAt, rowAt, rowsAt, entriesFrom, rowsFrom, joinedAt, joinedFrom, rewriteRoles}
+use Rattle.derivation.proofs.JoinLaws.{join-append}
+use Rattle.derivation.proofs.TableDistinct.{there, addAll-append, addAll-skip, place-below, place-more, place-skip}
 use Rattle.derivation.proofs.TableKept.{entry, other-source, entries-there, entries-all, DerivedOf, keptOf-entries, keptFrom-source}
 
 module _ (ρ : Rota) where
@@ -90,12 +92,41 @@ module _ (ρ : Rota) where
       ap (λ (es : List Entry). map (rowOf es) (keptFrom ρ (length (ρ .roles)) 0)) (entries-are (length (ρ .roles)) 0)
       ∙ rows-are (length (ρ .roles)) 0 [] tt
 
-  pub by-roles : unjoined ρ ≡ rewriteRoles ρ 0 (length (ρ .roles))
-  unfolding rewriteRoles unjoined
+  -- the rows of one role name its own derived roles, and those of later roles later ones
+  rows-below : (r base : ℕ) → All (λ (w : Row). w .derived < base + length (entriesAt ρ r)) (rowsAt ρ r base)
+  unfolding rowsAt entriesAt
+  rows-below r base =
+      all-map (λ (w : Row). w .derived < base + length (entriesAt ρ r)) (rowAt base (entriesAt ρ r)) (keptOf ρ r (fields ρ))
+      (all-with (λ k t. omega (arith, place-below same (k .entry) (entriesAt ρ r) t)) (keptOf ρ r (fields ρ)) (entries-there (keptOf ρ r (fields ρ))))
+
+  rows-from : (n r base : ℕ) → All (λ (w : Row). base ≤ w .derived) (rowsFrom ρ n r base)
+  unfolding rowsFrom rowsAt
+  rows-from zero r base = tt
+  rows-from (suc n) r base =
+      all-append (λ (w : Row). base ≤ w .derived) (rowsAt ρ r base) (rowsFrom ρ n (suc r) (base + length (entriesAt ρ r)))
+      (all-map (λ (w : Row). base ≤ w .derived) (rowAt base (entriesAt ρ r)) (keptOf ρ r (fields ρ))
+      (all-with (λ k u. omega arith) (keptOf ρ r (fields ρ)) (all-unit (keptOf ρ r (fields ρ)))))
+      (all-with (λ w h. omega arith) (rowsFrom ρ n (suc r) (base + length (entriesAt ρ r))) (rows-from n (suc r) (base + length (entriesAt ρ r))))
+
+  -- so no row touches one of another role
+  joined-from : (n r base : ℕ) → joinRows (rowsFrom ρ n r base) ≡ joinedFrom ρ n r base
+  unfolding rowsFrom joinedFrom joinedAt joinRows
+  joined-from zero r base = refl
+  joined-from (suc n) r base =
+      let next = base + length (entriesAt ρ r) in
+      join-append (λ v w p q t. omega (arith, t .derived)) (rowsAt ρ r base) (rowsFrom ρ n (suc r) next) (rows-below r base) (rows-from n (suc r) next)
+      ∙ ap (λ (l : List Row). joinRows (rowsAt ρ r base) ++ l) (joined-from n (suc r) next)
+
+  pub joined-by-role : rewrite ρ .rows ≡ joinedFrom ρ (length (ρ .roles)) 0 0
+  unfolding rewrite
+  joined-by-role = ap joinRows rows-by-role ∙ joined-from (length (ρ .roles)) 0 0
+
+  pub by-roles : rewrite ρ ≡ rewriteRoles ρ 0 (length (ρ .roles))
+  unfolding rewriteRoles rewrite unjoined
   by-roles =
       let e : length (ρ .roles) ≡ length (ρ .roles) - 0 = omega arith in
-      let es : unjoined ρ .entries ≡ entriesFrom ρ (length (ρ .roles) - 0) 0 = entries-by-role ∙ ap (λ (k : ℕ). entriesFrom ρ k 0) e in
-      let ws : unjoined ρ .rows ≡ rowsFrom ρ (length (ρ .roles) - 0) 0 0 = rows-by-role ∙ ap (λ (k : ℕ). rowsFrom ρ k 0 0) e in
+      let es : rewrite ρ .entries ≡ entriesFrom ρ (length (ρ .roles) - 0) 0 = entries-by-role ∙ ap (λ (k : ℕ). entriesFrom ρ k 0) e in
+      let ws : rewrite ρ .rows ≡ joinedFrom ρ (length (ρ .roles) - 0) 0 0 = joined-by-role ∙ ap (λ (k : ℕ). joinedFrom ρ k 0 0) e in
       λ i. record { cycle = ρ .cycle; users = ρ .users; permissions = ρ .permissions; roles = length (ρ .roles); entries = es i; rows = ws i }
 
   -- one role more of `roles`, and none left: what a loop over the roles has still to do
@@ -108,10 +139,10 @@ module _ (ρ : Rota) where
   entries-none roles r h = let e : roles - r ≡ 0 = omega arith in rw e
 
   pub rows-next : (roles r base : ℕ) → r < roles
-      → rowsFrom ρ (roles - r) r base ≡ rowsAt ρ r base ++ rowsFrom ρ (roles - (r + 1)) (r + 1) (base + length (entriesAt ρ r))
-  unfolding rowsFrom
+      → joinedFrom ρ (roles - r) r base ≡ joinedAt ρ r base ++ joinedFrom ρ (roles - (r + 1)) (r + 1) (base + length (entriesAt ρ r))
+  unfolding joinedFrom
   rows-next roles r base h = let e : roles - r ≡ suc (roles - (r + 1)) = omega arith in rw (e, add-one r)
 
-  pub rows-none : (roles r base : ℕ) → roles ≤ r → rowsFrom ρ (roles - r) r base ≡ []
-  unfolding rowsFrom
+  pub rows-none : (roles r base : ℕ) → roles ≤ r → joinedFrom ρ (roles - r) r base ≡ []
+  unfolding joinedFrom
   rows-none roles r base h = let e : roles - r ≡ 0 = omega arith in rw e

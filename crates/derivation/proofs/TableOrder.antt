@@ -1,6 +1,6 @@
--- The entries and the rows of a rewritten table: each in its range, in order, and how many there are.
+-- The entries of a rewritten table, and its rows before those that touch are joined: each in its range, in order, and how many there are.
 --     entries-well, entries-ascend, entries-few    sources and sets in range, sources ascend, no more entries than rows
---     rows-well, rows-ordered, rows-few            windows and derived roles in range, each row follows the one before, at most 1,067,040
+--     rows-well, rows-follow, rows-few             windows and derived roles in range, each row follows those before, at most 1,067,040
 -- Assumes nothing.
 use Rattle.ground.proofs.ListLaws.{all-map, all-with, all-both, Pairwise, pairwise-with, pairwise-map}
 use Prim.Native.Nat.{ℕ, zero, suc, _≤_}
@@ -12,10 +12,10 @@ use lib.ListN.{length, length-map}
 use Rattle.ground.specs.Sequence.{All}
 use Rattle.rota.specs.Rota.{Rota}
 use Rattle.rota.specs.RotaWell.{RotaWell}
-use Rattle.table.specs.Table.{Entry, Row, Table, noEntry, entryAt}
-use Rattle.table.specs.TableWell.{EntryWell, Ascending, RowWell, Follows, InOrder}
+use Rattle.table.specs.Table.{Entry, noEntry, entryAt}
+use Rattle.table.specs.TableWell.{EntryWell, Ascending, RowWell, Follows}
 use Rattle.derivation.specs.Distinct.{placeOf}
-use Rattle.derivation.specs.Rewriting.{fields, Kept, keptOf, kept, same, entriesOf, rowOf, unjoined}
+use Rattle.derivation.specs.Rewriting.{fields, Kept, keptOf, kept, same, entriesOf, rowOf, unjoined, rewrite}
 use Rattle.derivation.proofs.TableDistinct.{there, place-below, place-is}
 use Rattle.derivation.proofs.TableFields.{FieldWell, fields-well}
 use Rattle.derivation.proofs.TableKept.{same-is, entries-there, entries-all, entries-length, keptOf-fields, keptOf-entries, keptFrom-all, After, kept-ordered, kept-few}
@@ -39,26 +39,21 @@ from-ascending ρ (suc n) r =
     (all-with (λ e d. d .source) (entriesAt ρ r) (entriesAt-derived ρ r))
     (ascending-from r (suc r) (entriesFrom ρ n (suc r)) (omega arith) (from-ascending ρ n (suc r)))
 
--- rows of which each follows all before it follow one another
-in-order-of : (τ : Table) (ws : List Row) → Pairwise (Follows τ) ws → InOrder τ ws
-in-order-of τ [] p = tt
-in-order-of τ (v ∷ []) p = tt
-in-order-of τ (v ∷ w ∷ ws) p = (p .0 .0, in-order-of τ (w ∷ ws) (p .1))
-
 module _ (ρ : Rota) where
-  pub entries-few : length (unjoined ρ .entries) ≤ length (unjoined ρ .rows)
-  unfolding unjoined
+  pub entries-few : length (rewrite ρ .entries) ≤ length (unjoined ρ .rows)
+  unfolding rewrite unjoined
   entries-few = omega (arith, entries-length (kept ρ), length-map (kept ρ) (rowOf (entriesOf (kept ρ))))
 
-  pub entries-ascend : Ascending 0 (unjoined ρ .entries)
+  pub entries-ascend : Ascending 0 (rewrite ρ .entries)
+  unfolding rewrite
   entries-ascend = subst (Ascending 0) (sym (entries-by-role ρ)) (from-ascending ρ (length (ρ .roles)) 0)
 
   -- the sources are roles, the sets are not empty and in range
-  pub entries-well : All (EntryWell (unjoined ρ)) (unjoined ρ .entries)
-  unfolding unjoined kept
+  pub entries-well : All (EntryWell (rewrite ρ)) (rewrite ρ .entries)
+  unfolding rewrite unjoined kept
   entries-well =
-      entries-all (EntryWell (unjoined ρ)) (kept ρ)
-      (keptFrom-all ρ (λ (k : Kept). EntryWell (unjoined ρ) (k .entry)) (length (ρ .roles)) 0
+      entries-all (EntryWell (rewrite ρ)) (kept ρ)
+      (keptFrom-all ρ (λ (k : Kept). EntryWell (rewrite ρ) (k .entry)) (length (ρ .roles)) 0
       (λ q a b. all-with
       (λ k d. record {
         source = omega (arith, d .source);
@@ -71,13 +66,13 @@ module _ (ρ : Rota) where
 
   -- the row of what is kept names its derived role
   row-source : (k : Kept) → there same (k .entry) (entriesOf (kept ρ)) ≡ true
-      → entryAt (unjoined ρ) (placeOf same (k .entry) (entriesOf (kept ρ))) .source ≡ k .entry .source
-  unfolding unjoined
+      → entryAt (rewrite ρ) (placeOf same (k .entry) (entriesOf (kept ρ))) .source ≡ k .entry .source
+  unfolding rewrite unjoined
   row-source k h = ap (λ (e : Entry). e .source) (place-is same same-is (k .entry) (entriesOf (kept ρ)) noEntry h)
 
 module _ (ρ : Rota) (w : RotaWell ρ) where
   pub rows-few : length (unjoined ρ .rows) ≤ 1067040
-  unfolding unjoined
+  unfolding rewrite unjoined
   rows-few = omega (arith, kept-few ρ w, length-map (kept ρ) (rowOf (entriesOf (kept ρ))))
 
   kept-fields : All (λ (k : Kept). FieldWell (ρ .cycle) (k .field)) (kept ρ)
@@ -86,10 +81,10 @@ module _ (ρ : Rota) (w : RotaWell ρ) where
       keptFrom-all ρ (λ (k : Kept). FieldWell (ρ .cycle) (k .field)) (length (ρ .roles)) 0
       (λ q a b. keptOf-fields ρ (FieldWell (ρ .cycle)) q (fields ρ) (fields-well ρ w))
 
-  pub rows-well : All (RowWell (unjoined ρ)) (unjoined ρ .rows)
-  unfolding unjoined
+  pub rows-well : All (RowWell (rewrite ρ)) (unjoined ρ .rows)
+  unfolding rewrite unjoined
   rows-well =
-      all-map (RowWell (unjoined ρ)) (rowOf (entriesOf (kept ρ))) (kept ρ)
+      all-map (RowWell (rewrite ρ)) (rowOf (entriesOf (kept ρ))) (kept ρ)
       (all-both
       (λ k h f. record {
         derived = place-below same (k .entry) (entriesOf (kept ρ)) h;
@@ -100,11 +95,10 @@ module _ (ρ : Rota) (w : RotaWell ρ) where
       })
       (kept ρ) (entries-there (kept ρ)) kept-fields)
 
-  pub rows-ordered : InOrder (unjoined ρ) (unjoined ρ .rows)
-  unfolding unjoined
-  rows-ordered =
-      in-order-of (unjoined ρ) (unjoined ρ .rows)
-      (pairwise-map (Follows (unjoined ρ)) (rowOf (entriesOf (kept ρ))) (kept ρ)
+  pub rows-follow : Pairwise (Follows (rewrite ρ)) (unjoined ρ .rows)
+  unfolding rewrite unjoined
+  rows-follow =
+      pairwise-map (Follows (rewrite ρ)) (rowOf (entriesOf (kept ρ))) (kept ρ)
       (pairwise-with
       (λ j k p q h. subst₂ (λ (a b : ℕ). After a b (j .field) (k .field)) (sym (row-source ρ j p)) (sym (row-source ρ k q)) h)
-      (kept ρ) (entries-there (kept ρ)) (kept-ordered ρ w)))
+      (kept ρ) (entries-there (kept ρ)) (kept-ordered ρ w))

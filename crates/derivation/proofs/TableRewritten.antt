@@ -15,13 +15,15 @@ use Rattle.table.specs.TableRefusals.{tableJudged}
 use Rattle.table.specs.TableWell.{TableWell}
 use Rattle.table_reader.proofs.ReadBackLaws.{bytes-length}
 use Rattle.table_reader.proofs.TableTheorems.{read-back, well-accepted, well-bytes}
-use Rattle.derivation.specs.Rewriting.{rewrite, sizeOf}
-use Rattle.derivation.proofs.TableOrder.{entries-few, entries-ascend, rows-few, entries-well, rows-well, rows-ordered}
+use Rattle.derivation.specs.Rewriting.{unjoined, rewrite, sizeOf}
+use Rattle.derivation.proofs.JoinedOrder.{join-well, join-order}
+use Rattle.derivation.proofs.Joining.{joined-fewer}
+use Rattle.derivation.proofs.TableOrder.{entries-few, entries-ascend, rows-few, entries-well, rows-well, rows-follow}
 
 module _ (ρ : Rota) (w : RotaWell ρ) where
   -- the rewritten table keeps every rule of the reader
   pub well-rewritten : TableWell (rewrite ρ)
-  unfolding rewrite
+  unfolding rewrite unjoined
   well-rewritten =
       record {
         cycle-some = w .cycle-some;
@@ -30,11 +32,11 @@ module _ (ρ : Rota) (w : RotaWell ρ) where
         permissions-most = w .permissions-most;
         roles-most = w .roles-most;
         entries-most = omega (arith, entries-few ρ, rows-few ρ w);
-        rows-most = omega (arith, rows-few ρ w);
+        rows-most = omega (arith, joined-fewer ρ, rows-few ρ w);
         entries = entries-well ρ;
         ascending = entries-ascend ρ;
-        rows = rows-well ρ w;
-        in-order = rows-ordered ρ w;
+        rows = join-well (rewrite ρ) (unjoined ρ .rows) (rows-well ρ w);
+        in-order = join-order (rewrite ρ) (unjoined ρ .rows) (rows-follow ρ w);
       }
 
   -- so its bytes are bytes, and are accepted
@@ -46,7 +48,7 @@ module _ (ρ : Rota) (w : RotaWell ρ) where
 
   pub size-few : sizeOf (rewrite ρ) ≤ 35212336
   unfolding sizeOf
-  size-few = omega (arith, entries-few ρ, rows-few ρ w)
+  size-few = omega (arith, entries-few ρ, joined-fewer ρ, rows-few ρ w)
 
 -- the bytes of any rewritten table spell it, and are as many as the rewriting says
 pub rewritten-read : (ρ : Rota) → tableOf (tableBytes (rewrite ρ)) ≡ rewrite ρ
