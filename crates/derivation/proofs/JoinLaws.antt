@@ -6,7 +6,7 @@
 --     fewer-rows, none-touch                   no more rows than before, and none that touches the next
 --     joined-any                               the joined rows cover, for each derived role, the minutes that the rows cover
 -- Assumes nothing.
-use Prim.Native.Nat.{ℕ, suc, _+_, _%_, _≤_, _<_}
+use Prim.Native.Nat.{ℕ, suc, _+_, _%_, _≤_}
 use mathlib.Core.Path.{_≡_, refl, sym, ap, _∙_}
 use mathlib.Core.Logic.{⊎-elim}
 use mathlib.Core.Bool.{Bool, true, false, _&&_, _||_, or-true, or-assoc}

@@ -6,6 +6,8 @@
 --     same-through, same-answer           the table answers as the rota does
 --     fewest                              no other table of untimed users and permissions has fewer derived roles of a role
 --     worked-field                        the worked field of document 01
+-- And of the rows that touch (document 02, item 4), in Joining.antt:
+--     joined-same, joined-none, joined-fewer    joined, they enable the same at the same minutes, none touches the next, and there are no more
 -- Assumes nothing.
 use Prim.Native.Nat.{ℕ, _≤_, _<_}
 use mathlib.Core.Path.{_≡_, sym, ap, _∙_}

@@ -1,27 +1,28 @@
 -- Joined rows as a loop over the cells of an era makes them, cell by cell: a run of cells with one mark is one row. `cell low high` is the field of
 -- an era from the phase `low` to `high`.
 --     run-on, run-ends, run-last    the next cell has the run's mark, or another; no cell is left
---     rows-later, later-cells       the rows of cells past a phase begin past it
+--     cells-later, rows-later       the rows of cells past a phase begin past it
 --     era-by-era                    the rows of one era, then those of the later eras
+--     rowsMarked-all, marked-append what holds of all rows; the rows of fields one after the other
 -- Assumes nothing.
 use Prim.Native.Nat.{ℕ, zero, suc, _+_, _-_, _≤_, _<_}
-use mathlib.Core.Path.{_≡_, refl, sym, ap, ap₂, _∙_}
+use mathlib.Core.Path.{_≡_, refl, ap, _∙_}
 use mathlib.Core.Bool.{false}
 use mathlib.Core.List.{List, [], _∷_, _++_, map}
 use native.Mathlib.Omega.{arith}
-use lib.ListN.{length, getD, take, drop, length-map}
+use lib.ListN.{length, take, drop, length-map}
 use Rattle.ground.specs.Sequence.{All}
-use Rattle.ground.proofs.ListLaws.{all-append, all-map, all-with, all-unit}
+use Rattle.ground.proofs.ListLaws.{all-map, all-with, all-unit}
 use Rattle.minutes.specs.Minutes.{Window}
 use Rattle.table.specs.Table.{Row}
-use Rattle.derivation.specs.Cuts.{Gap, gapsFrom, gaps}
-use Rattle.derivation.specs.Joined.{touches, spanning, attach, joinRows}
+use Rattle.derivation.specs.Cuts.{Gap, gapsFrom}
+use Rattle.derivation.specs.Joined.{touches, attach, joinRows}
 use Rattle.derivation.specs.Rewriting.{fieldOf, fieldsOf}
 use Rattle.derivation.specs.Roles.{marked, rowsMarked}
-use Rattle.derivation.proofs.CutLaws.{Above, Sorted}
+use Rattle.derivation.proofs.CutLaws.{Above}
 use Rattle.derivation.proofs.TableCuts.{gapsFrom-low}
 use Rattle.derivation.proofs.TableFields.{fieldsOf-all}
-use Rattle.derivation.proofs.JoinLaws.{Touch, untouched, span-next, join-front, join-append}
+use Rattle.derivation.proofs.JoinLaws.{untouched, span-next, join-front, join-append}
 
 -- what holds of all rows, from what holds of all fields
 pub rowsMarked-all : (P : Window → Type 0) (base : ℕ) (fs : List Window) (ks : List ℕ) → All P fs → All (λ (w : Row). P (w .window)) (rowsMarked base fs ks)
@@ -70,12 +71,15 @@ module _ (base : ℕ) (era : Gap) where
       go zero d = rest
       go (suc k) d = (untouched run (record { derived = base + k; window = cell x y }) (λ t. d (omega (arith, t .derived))), rest)
 
-  -- the rows of the cells from phase y on
+  -- the rows of cells past phase x, and so those of the cells from y on
+  pub cells-later : (x : ℕ) (gs : List Gap) (ks : List ℕ) → All (λ (g : Gap). x < g .low) gs
+      → All (λ (w : Row). x < w .window .offset) (rowsMarked base (map (fieldOf era) gs) ks)
+  cells-later x gs ks h =
+      rowsMarked-all (λ (f : Window). x < f .offset) base (map (fieldOf era) gs) ks (all-map (λ (f : Window). x < f .offset) (fieldOf era) gs h)
+
   pub rows-later : (x y : ℕ) (l ks : List ℕ) → x < y → Above y l
       → All (λ (w : Row). x < w .window .offset) (rowsMarked base (map (fieldOf era) (gapsFrom y l)) ks)
-  rows-later x y l ks h s =
-      rowsMarked-all (λ (f : Window). x < f .offset) base (map (fieldOf era) (gapsFrom y l)) ks
-      (all-map (λ (f : Window). x < f .offset) (fieldOf era) (gapsFrom y l) (all-with (λ g q. omega arith) (gapsFrom y l) (gapsFrom-low y y l (omega arith) s)))
+  rows-later x y l ks h s = cells-later x (gapsFrom y l) ks (gapsFrom-low (suc x) y l h s)
 
 -- fields one after the other
 pub marked-append : (base : ℕ) (fs gs : List Window) (ks : List ℕ)

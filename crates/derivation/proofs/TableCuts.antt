@@ -2,13 +2,16 @@
 --     sort-all, sort-length                  what holds of all values; how many
 --     gaps-fit, gaps-apart, gaps-length      each gap from a value to a greater one; each before the next; how many
 --     gapsFrom-low                           none begins before the first value
+--     rising-above, rising-later             the same of an array of which some values rise, by index
 -- Assumes nothing.
 use Rattle.ground.proofs.ListLaws.{Pairwise}
-use Prim.Native.Nat.{ℕ, suc, _+_, _-_, _≤_, _<_}
-use mathlib.Core.Path.{_≡_, refl, ap}
+use Prim.Native.Nat.{ℕ, zero, suc, _+_, _-_, _≤_, _<_}
+use mathlib.Core.Path.{_≡_, refl, sym, ap, _∙_, subst}
 use mathlib.Core.List.{List, [], _∷_}
+use native.Mathlib.Numerals.{add-one}
 use native.Mathlib.Omega.{arith}
-use lib.ListN.{length}
+use lib.ListN.{length, getD, take, drop}
+use lib.Seq.{slice-empty, slice-cons}
 use Rattle.ground.specs.Sequence.{All}
 use Rattle.derivation.proofs.CutLaws.{Above, Sorted, by-order}
 use Rattle.derivation.specs.Cuts.{Gap, insertCut, sortInto, gapsFrom, gaps}
@@ -62,6 +65,25 @@ gapsFrom-length : (a : ℕ) (l : List ℕ) → length (gapsFrom a l) ≡ length 
 unfolding gapsFrom
 gapsFrom-length a [] = refl
 gapsFrom-length a (x ∷ l) = ap suc (gapsFrom-length x l)
+
+-- an array of which n + 1 values rise: those past the value at i, and the gaps from the next value on
+rises-past : (m i n : ℕ) (a : List ℕ) → m + i ≡ n → n < length a → ((k : ℕ) → k < n → getD a k 0 < getD a (k + 1) 0)
+    → Above (getD a i 0) (drop (suc i) (take (suc n) a))
+rises-past zero i n a e h r =
+    let q : n ≡ i = omega arith in
+    subst (Above (getD a i 0)) (sym (ap (λ (k : ℕ). drop (suc i) (take (suc k) a)) q ∙ slice-empty (suc i) a)) tt
+rises-past (suc m) i n a e h r =
+    subst (Above (getD a i 0)) (sym (slice-cons (suc i) (suc n) a 0 (omega arith) h))
+    (subst (λ (k : ℕ). getD a i 0 < getD a k 0) (add-one i) (r i (omega arith)), rises-past m (suc i) n a (omega arith) h r)
+
+pub rising-above : (i n : ℕ) (a : List ℕ) → i ≤ n → n < length a → ((k : ℕ) → k < n → getD a k 0 < getD a (k + 1) 0)
+    → Above (getD a i 0) (drop (suc i) (take (suc n) a))
+rising-above i n a l = rises-past (n - i) i n a (omega arith)
+
+pub rising-later : (i n : ℕ) (a : List ℕ) → i < n → n < length a → ((k : ℕ) → k < n → getD a k 0 < getD a (k + 1) 0)
+    → All (λ (g : Gap). getD a i 0 < g .low) (gapsFrom (getD a (i + 1) 0) (drop (suc (i + 1)) (take (suc n) a)))
+rising-later i n a l h r =
+    gapsFrom-low (suc (getD a i 0)) (getD a (i + 1) 0) (drop (suc (i + 1)) (take (suc n) a)) (r i l) (rising-above (i + 1) n a (omega arith) h r)
 
 pub gaps-fit : (top : ℕ) (l : List ℕ) → Sorted l → All (λ (x : ℕ). x ≤ top) l → All (Fits top) (gaps l)
 unfolding gaps
