@@ -1,4 +1,4 @@
--- What the rewritten table means: at each minute, of each role, the derived role that the role is then.
+-- What the rewritten table means, before rows that touch are joined: at each minute, of each role, the derived role that the role is then.
 --     active-in, active-out          a role is active: it is enabled and has a user and a permission
 --     sound, complete                a derived role is enabled exactly where its role is active and is that derived role
 --     through-same, answer-same      table and rota give the same answers
