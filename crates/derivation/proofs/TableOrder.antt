@@ -72,7 +72,7 @@ module _ (ρ : Rota) where
 
 module _ (ρ : Rota) (w : RotaWell ρ) where
   pub rows-few : length (unjoined ρ .rows) ≤ 1067040
-  unfolding rewrite unjoined
+  unfolding unjoined
   rows-few = omega (arith, kept-few ρ w, length-map (kept ρ) (rowOf (entriesOf (kept ρ))))
 
   kept-fields : All (λ (k : Kept). FieldWell (ρ .cycle) (k .field)) (kept ρ)
