@@ -39,7 +39,7 @@ run-last base f (suc k) = refl
 
 module _ (base : ℕ) (era : Gap) where
   -- from phase low to high
-  abbrev pub cell : ℕ → ℕ → Window
+  abbrev cell : ℕ → ℕ → Window
   cell low high = fieldOf era (record { low = low; high = high })
 
   -- the next cell has the same mark
