@@ -6,5 +6,6 @@ pub mod Meaning
 pub mod Untimed
 pub mod Masks
 pub mod Roles
+pub mod Kinds
 pub mod Constancy
 pub mod Worked
