@@ -1,10 +1,10 @@
 -- Where the walk that seeks a pair begins, and its turns: one for each member that a pair can have, taken one by one; together they tell the pair from any other.
 -- Assumes nothing.
-use Prim.Native.Nat.{ℕ, zero, suc, _+_, _*_, _%_, _<_}
+use Prim.Native.Nat.{ℕ, zero, suc, _+_, _*_, _/_, _%_, _^_, _≤_, _<_}
 use mathlib.Core.Path.{_≡_, refl, sym, _∙_, ap, ap₂}
 use mathlib.Core.Bool.{Bool, true, false, not, _&&_, and-false, and-true}
 use mathlib.Core.List.{List, [], _∷_, _++_}
-use native.Mathlib.Nat.{mod-lt}
+use native.Mathlib.Nat.{mod-lt, mul-comm, mul-lt-mul-of-pos-right, mul-le-mul, lt-of-lt-of-le, lt-of-le-of-lt, le-of-lt, le-of-eq, div-lt-iff-lt-mul}
 use native.Mathlib.Omega.{arith}
 use lib.ListN.{length, take, drop, length-append}
 use lib.Seq.{take-at, drop-at}
@@ -80,13 +80,29 @@ answers-apart (suc n) f g h e j l t =
 
 -- ---- where a walk begins
 
-pub bucket-is : (u p : ℕ) → ((u % 8191) * 31 + p % 8191) % 512 ≡ bucketOf u p
-unfolding bucketOf
-bucket-is u p = refl
+-- the sum of the four products fits in 64 bits
+halves : (x : ℕ) → x < 2 ^ 64 → (x % 4294967296 < 4294967296) × (x / 4294967296 < 4294967296)
+halves x h = (mod-lt x (omega arith), div-lt-iff-lt-mul {k = 4294967296} {x = x} {y = 4294967296} (omega arith) .1 h)
 
-pub bucket-small : (u p : ℕ) → bucketOf u p < 512
+four : (i j k l : ℕ) → i < 4294967296 → j < 4294967296 → k < 4294967296 → l < 4294967296 → i * 1036654187 + j * 961748927 + k * 870640927 + l * 1012924417 < 2 ^ 64
+four i j k l hi hj hk hl = omega arith
+
+pub spread-fits : (u p : ℕ) → u < 2 ^ 64 → p < 2 ^ 64
+    → (u % 4294967296) * 1036654187 + (u / 4294967296) * 961748927 + (p % 4294967296) * 870640927 + (p / 4294967296) * 1012924417 < 2 ^ 64
+spread-fits u p hu hp = let v = halves u hu in let q = halves p hp in four _ _ _ _ (v .0) (v .1) (q .0) (q .1)
+
+pub scale-fits : (z w : ℕ) → w ≤ 16384 → z % 16384 * w < 2 ^ 64
+scale-fits z w h = lt-of-le-of-lt (mul-le-mul (le-of-lt (mod-lt z (omega arith))) h) (omega arith)
+
+-- less than 1, scaled to w
+scaled : (z w : ℕ) → 0 < w → z % 16384 * w / 16384 < w
+scaled z w h =
+    div-lt-iff-lt-mul {k = 16384} {x = z % 16384 * w} {y = w} (omega arith) .1
+    (lt-of-lt-of-le (mul-lt-mul-of-pos-right (mod-lt z (omega arith)) h) (le-of-eq (mul-comm 16384 w)))
+
+pub bucket-small : (w u p : ℕ) → 0 < w → bucketOf w u p < w
 unfolding bucketOf
-bucket-small u p = mod-lt ((u % 8191) * 31 + p % 8191) (omega arith)
+bucket-small w u p h = scaled _ w h
 
 -- ---- the turns
 

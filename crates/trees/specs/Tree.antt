@@ -1,5 +1,5 @@
 -- What the steps promise each other of the tree: the walk that seeks a pair of sets, and where it leads.
-use Prim.Native.Nat.{ℕ, zero, suc, _+_, _*_, _%_, _^_, _≤_, _<_}
+use Prim.Native.Nat.{ℕ, zero, suc, _+_, _*_, _/_, _%_, _^_, _≤_, _<_}
 use mathlib.Core.Bool.{Bool, true, false}
 use mathlib.Core.Path.{_≡_}
 use mathlib.Core.List.{List, [], _∷_, _++_}
@@ -37,26 +37,29 @@ pub record Turned (a b u p : ℕ) (t : Turn) : Type 0 where
   pub to : t .side ≡ one bit
   pub first : turnsOf a b u p ≡ bit ∷ turnsOf (t .users) (t .permissions) u p
 
--- the place of the links where the walk that seeks u and p begins, one of 512; which one is of no matter to what is promised
-unfoldable pub bucketOf : ℕ → ℕ → ℕ
-bucketOf u p = ((u % 8191) * 31 + p % 8191) % 512
+-- the place of the links where the walk that seeks u and p begins, one of w: the high halves and the low halves are spread by four multipliers, and of
+-- the sum 14 bits count, scaled to the number of trees; which place it is does not matter to what is promised
+unfoldable pub bucketOf : ℕ → ℕ → ℕ → ℕ
+bucketOf w u p =
+    (((u % 4294967296) * 1036654187 + (u / 4294967296) * 961748927 + (p % 4294967296) * 870640927 + (p / 4294967296) * 1012924417) / 1048576 % 16384) * w
+    / 16384
 
--- the place of the links that has a child of pair k
-abbrev pub childAt : ℕ → Bool → ℕ
-childAt k side = 512 + 2 * k + one side
+-- the place of the links that has a child of pair k, after the w roots
+abbrev pub childAt : ℕ → ℕ → Bool → ℕ
+childAt w k side = w + 2 * k + one side
 
 -- one turn more of a walk that came to a place: the link there has one more than a pair, and the walk goes to a side of it
-pub record Onward (Came : ℕ → Type 0) (links : List ℕ) (side : Bool) (h : ℕ) : Type 0 where
+pub record Onward (w : ℕ) (Came : ℕ → Type 0) (links : List ℕ) (side : Bool) (h : ℕ) : Type 0 where
   pub from : ℕ
   pub pair : ℕ
   pub came : Came from
   pub link : getD links from 0 ≡ pair + 1
-  pub to : h ≡ childAt pair side
+  pub to : h ≡ childAt w pair side
 
 -- a walk from place r with the turns f comes to place h after s of them
-unfoldable pub Comes : List ℕ → ℕ → (ℕ → Bool) → ℕ → ℕ → Type 0
-Comes links r f zero h = h ≡ r
-Comes links r f (suc s) h = Onward (Comes links r f s) links (f s) h
+unfoldable pub Comes : ℕ → List ℕ → ℕ → (ℕ → Bool) → ℕ → ℕ → Type 0
+Comes w links r f zero h = h ≡ r
+Comes w links r f (suc s) h = Onward w (Comes w links r f s) links (f s) h
 
 -- a set of 64 has only members of a
 pub record Within (x a : ℕ) : Type 0 where
@@ -68,30 +71,30 @@ pub record Absent (d : ℕ) (pairs : List ℕ) (u p : ℕ) : Type 0 where
   pub nowhere : (i : ℕ) → i < d → usersAt pairs i ≡ u → permissionsAt pairs i ≡ p → ⊥
 
 -- the walk that seeks u and p comes to pair i
-pub record Reached (links : List ℕ) (a b u p i : ℕ) : Type 0 where
+pub record Reached (w : ℕ) (links : List ℕ) (a b u p i : ℕ) : Type 0 where
   pub steps : ℕ
   pub place : ℕ
-  pub comes : Comes links (bucketOf u p) (turnAt a b u p) steps place
+  pub comes : Comes w links (bucketOf w u p) (turnAt a b u p) steps place
   pub link : getD links place 0 ≡ i + 1
 
 -- the first d pairs are distinct and within a and b, links lead to them alone, no two to one pair, and the walk that seeks a pair comes to it
-pub record Indexed (d : ℕ) (pairs links : List ℕ) (a b : ℕ) : Type 0 where
+pub record Indexed (w d : ℕ) (pairs links : List ℕ) (a b : ℕ) : Type 0 where
   pub distinct : (k : ℕ) → k < d → Absent k pairs (usersAt pairs k) (permissionsAt pairs k)
   pub users-within : (k : ℕ) → k < d → Within (usersAt pairs k) a
   pub permissions-within : (k : ℕ) → k < d → Within (permissionsAt pairs k) b
-  pub below : (h : ℕ) → h < 512 + 2 * d → getD links h 0 ≤ d
-  pub single : (g h k : ℕ) → g < 512 + 2 * d → h < 512 + 2 * d → getD links g 0 ≡ k + 1 → getD links h 0 ≡ k + 1 → g ≡ h
-  pub leads : (k : ℕ) → k < d → Reached links a b (usersAt pairs k) (permissionsAt pairs k) k
+  pub below : (h : ℕ) → h < w + 2 * d → getD links h 0 ≤ d
+  pub single : (g h k : ℕ) → g < w + 2 * d → h < w + 2 * d → getD links g 0 ≡ k + 1 → getD links h 0 ≡ k + 1 → g ≡ h
+  pub leads : (k : ℕ) → k < d → Reached w links a b (usersAt pairs k) (permissionsAt pairs k) k
 
 -- the walk that seeks u and p ends at this place of the links
-pub record Ends (d : ℕ) (links : List ℕ) (a b u p hook : ℕ) : Type 0 where
-  pub within : hook < 512 + 2 * d
+pub record Ends (w d : ℕ) (links : List ℕ) (a b u p hook : ℕ) : Type 0 where
+  pub within : hook < w + 2 * d
   pub steps : ℕ
-  pub comes : Comes links (bucketOf u p) (turnAt a b u p) steps hook
+  pub comes : Comes w links (bucketOf w u p) (turnAt a b u p) steps hook
   pub free : getD links hook 0 ≡ 0
 
 -- a pair is found; or it is not there, and its walk has ended
-pub record Sought (n : ℕ) (pairs links : List ℕ) (a b u p : ℕ) (f : Found) : Type 0 where
+pub record Sought (w n : ℕ) (pairs links : List ℕ) (a b u p : ℕ) (f : Found) : Type 0 where
   pub most : f .place ≤ n
   pub here : f .place < n → (usersAt pairs (f .place) ≡ u) × (permissionsAt pairs (f .place) ≡ p)
-  pub absent : f .place ≡ n → Absent n pairs u p × Ends n links a b u p (f .hook)
+  pub absent : f .place ≡ n → Absent n pairs u p × Ends w n links a b u p (f .hook)

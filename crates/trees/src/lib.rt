@@ -1,7 +1,9 @@
-// An index of pairs of sets: 512 digital search trees (Coffman and Eve, 1970), over which the pairs are spread. Pair k has its users at place 2 k of
-// `pairs` and its permissions at 2 k + 1. The pairs themselves are the nodes. The first 512 places of the links have the roots, and places 512 + 2 k and
-// 513 + 2 k the two children of pair k, each as one more than its number, or 0 where there is none. A walk turns at each pair by one member, of those
-// that any pair can have, and goes on without it: however the pairs are chosen, it looks at no more of them than there are such members, and one.
+// An index of pairs of sets: w digital search trees (Coffman and Eve, 1970), over which the pairs are spread. Pair k has its users at place 2 k of
+// `pairs` and its permissions at 2 k + 1. The pairs themselves are the nodes. The first w places of the links have the roots, and places w + 2 k and
+// w + 2 k + 1 the two children of pair k, each as one more than its number, or 0 where there is none. How many trees there are the caller says, the same
+// at each call: about as many as there are pairs is best, since few trees make long walks and many roots take time to clear. A walk turns at each pair
+// by one member, of those that any pair can have, and goes on without it: however the pairs are chosen, it looks at no more of them than there are
+// such members, and one.
 ghost use mathlib.Core.Path.{_≡_};
 ghost use Prim.Native.Nat.{_+_, _*_, _<_, _≤_};
 ghost use lib.ListN.{length};
@@ -52,22 +54,36 @@ fn next_turn(a: u64, b: u64, u: u64, p: u64) -> Turn
     }
 }
 
-// The tree of u and p.
-fn bucket(u: u64, p: u64) -> usize
-    ensures { λ b. ⌜ (b ≡ bucketOf u p) × (b < 512) ⌝ }
+// The tree of u and p, of w.
+fn bucket(u: u64, p: u64, w: usize) -> usize
+    requires { ⌜ (0 < w) × (w ≤ 16384) ⌝ }
+    ensures { λ b. ⌜ (b ≡ bucketOf w u p) × (b < w) ⌝ }
 {
-    (((u % 8191) * 31 + p % 8191) % 512) as usize
+    let sum = (u % 4294967296) * 1036654187
+        + (u / 4294967296) * 961748927
+        + (p % 4294967296) * 870640927
+        + (p / 4294967296) * 1012924417;
+    (sum / 1048576 % 16384) as usize * w / 16384
 }
 
 // Where u and p stand among the first n pairs; or n, and where the walk that seeks them ends.
-pub fn find(pairs: &[u64], links: &[u16], a: u64, b: u64, n: usize, u: u64, p: u64) -> Found
-    requires { ⌜ (2 * n ≤ length (now pairs)) × (512 + 2 * n ≤ length (now links)) × (n < 33345) ⌝ }
-    requires { ⌜ Indexed n (now pairs) (now links) a b × Within u a × Within p b ⌝ }
-    ensures { λ f. ⌜ Sought n (now (pairs .entry)) (now (links .entry)) a b u p f ⌝ }
+pub fn find(
+    pairs: &[u64],
+    links: &[u16],
+    w: usize,
+    a: u64,
+    b: u64,
+    n: usize,
+    u: u64,
+    p: u64,
+) -> Found
+    requires { ⌜ (2 * n ≤ length (now pairs)) × (w + 2 * n ≤ length (now links)) × (n < 33345) × (0 < w) × (w ≤ 16384) ⌝ }
+    requires { ⌜ Indexed w n (now pairs) (now links) a b × Within u a × Within p b ⌝ }
+    ensures { λ f. ⌜ Sought w n (now (pairs .entry)) (now (links .entry)) a b u p f ⌝ }
 {
     let mut rest_a = a;
     let mut rest_b = b;
-    let mut hook = bucket(u, p);
+    let mut hook = bucket(u, p, w);
     loop {
         let c = links[hook] as usize;
         if c == 0 {
@@ -80,7 +96,7 @@ pub fn find(pairs: &[u64], links: &[u16], a: u64, b: u64, n: usize, u: u64, p: u
             }
         }
         let t = next_turn(rest_a, rest_b, u, p);
-        hook = 512 + 2 * k + t.side;
+        hook = w + 2 * k + t.side;
         rest_a = t.users;
         rest_b = t.permissions;
     }

@@ -10,16 +10,16 @@ use Rattle.trees.proofs.find.Statement.{statement}
 use Rattle.trees.proofs.find.Tie as tie
 
 abbrev Inv-loop : tie.InvT-loop
-Inv-loop pairs links a b n u p rest-a₀ rest-b₀ hook₀ rest-a rest-b hook = Seeking n pairs links a b u p rest-a rest-b hook
+Inv-loop pairs links w a b n u p rest-a₀ rest-b₀ hook₀ rest-a rest-b hook = Seeking w n pairs links a b u p rest-a rest-b hook
 
 abbrev μ-loop : tie.MeasureT-loop
-μ-loop pairs links a b n u p rest-a₀ rest-b₀ hook₀ rest-a rest-b hook = count rest-a + count rest-b
+μ-loop pairs links w a b n u p rest-a₀ rest-b₀ hook₀ rest-a rest-b hook = count rest-a + count rest-b
 
 bucket-requires : tie.Need-bucket-requires Inv-loop μ-loop
 bucket-requires c κs = search needs
 
 loop-holds : tie.Need-loop-holds Inv-loop μ-loop
-loop-holds c = let a = c .before .before .before .args in seek-start (a .n) (a .pairs .now) (a .links .now) (a .a) (a .b) (a .u) (a .p) (c .bucket .result) (c .bucket .ensures .0)
+loop-holds c = let a = c .before .before .before .args in seek-start (a .w) (a .n) (a .pairs .now) (a .links .now) (a .a) (a .b) (a .u) (a .p) (c .bucket .result) (c .before .before .before .pre .0 .3) (c .bucket .ensures .0)
 
 mul-c : tie.Need-mul-c Inv-loop μ-loop
 mul-c c = omega (arith, hook-below (c .before .before .before .before .pre .1 .0) (c .loop .inv), c .before .before .before .before .pre .0)
