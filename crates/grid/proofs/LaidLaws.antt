@@ -1,8 +1,8 @@
--- The masks that the code stores are the masks of the fields, and the arrays hold all that `Laid` says.
+-- The masks that the code makes are the masks of the fields, and the arrays of cuts hold all that `Divided` says.
 --     fields-are, fields-number              the fields by index, and how many fields there are
 --     mask-is                                the mask of one field
---     Written, written-..                    the masks of the eras passed are stored
---     eras-cut, cells-cut, divided, laid     the arrays of cuts, and all together
+--     masks-none, masks-more, masks-all      the masks of no era, of one era more, and of all
+--     eras-cut, cells-cut, divided           the arrays of cuts
 --     fields-few                             how many fields there are at most
 -- Assumes nothing.
 use Prim.Native.Nat.{ℕ, _+_, _-_, _*_, _%_, _≤_, _<_}
@@ -37,7 +37,7 @@ use Rattle.derivation.proofs.ValueLaws.{era-values, cell-values, hoursCuts-leng
 use Rattle.derivation.proofs.TableFields.{fieldsOf-length}
 use Rattle.grid.specs.declared.Division.{Division}
 use Rattle.cuts.specs.Added.{Added, hoursNo}
-use Rattle.grid.specs.Grid.{fieldMask, gapAt, InCells, maskIn, Cuts, Divided, Laid}
+use Rattle.grid.specs.Grid.{fieldMask, gapAt, InCells, maskIn, Cuts, masksTo, Divided}
 use Rattle.cuts.proofs.RecordLaws.{few-hours}
 use Rattle.grid.proofs.OrderLaws.{gaps-at, gap-in, added-cuts}
 use Rattle.grid.proofs.FieldLaws.{holds-split}
@@ -62,18 +62,10 @@ mask-by ρ dates pairs b e o f l same =
     (firstIn (ρ .cycle) b o f) e (λ h. ap (λ x. insert x 32) (sym (same h))) (λ h. refl))
 
 -- ---- all fields
--- the masks of i eras are stored, and those of the next go to `first`
-pub record Written (s eras : List ℕ) (ne nc i first : ℕ) (masks : List ℕ) : Type 0 where
-  pub below : i ≤ ne
-  pub place : first ≡ i * nc
-  pub stored : take first masks ≡ map (maskOf (rotaOf s)) (fieldsOf (listOf i (gapAt eras)) (gaps (cellCuts (rotaOf s))))
-
-pub written-none : (s eras : List ℕ) (ne nc : ℕ) (masks : List ℕ) → Written s eras ne nc 0 0 masks
-unfolding listOf fieldsOf
-written-none s eras ne nc masks = record { below = omega arith; place = omega arith; stored = refl }
-
-pub written-room : {s eras : List ℕ} {ne nc i first : ℕ} {masks : List ℕ} → Written s eras ne nc i first masks → i < ne → first + nc ≤ ne * nc
-written-room {nc = nc} w hi = omega (arith, w .place, mul-le-mul-right nc hi)
+-- before the first era there are none
+pub masks-none : (s eras : List ℕ) → masksTo s eras 0 ≡ []
+unfolding masksTo listOf fieldsOf
+masks-none s eras = refl
 
 module _ (s : List ℕ) (ok : rotaJudged s ≡ 0) where
   -- at a minute t of a field the records that hold are those whose parts, judged at the field's corner, do
@@ -120,36 +112,30 @@ module _ (s : List ℕ) (ok : rotaJudged s ≡ 0) where
         ∙ sym (map-listOf (maskOf (rotaOf s)) nc (λ j. fieldOf (gapAt eras i) (gapAt cells j)))
         ∙ ap (map (maskOf (rotaOf s))) (sym (map-listOf (fieldOf (gapAt eras i)) nc (gapAt cells)) ∙ ap (map (fieldOf (gapAt eras i))) (sym (gaps-at _ cells nc (cc .long) (cc .are))))
 
-    module _ {i first : ℕ} {masks : List ℕ} (w : Written s eras ne nc i first masks) where
-      pub written-more : {cycle h dates : ℕ} {pairs after : List ℕ} → i < ne → cycle ≡ cycleOf s → h ≡ hoursOf s → dates ≡ recordsThat s (headerLength s) h (datesHold (getD eras i 0))
-          → InCells s h cells nc pairs
-          → take (first + nc) after ≡ take first masks ++ listOf nc (maskIn cycle dates (getD eras i 0) (getD eras (i + 1) 0) cells pairs)
-          → Written s eras ne nc (i + 1) (first + nc) after
-      written-more {cycle} {h} {dates} {pairs} {after} hi ec eh ed in-cells e =
-          record { below = omega arith; place = omega (arith, w .place); stored = stored }
-        where
-          cs : List Gap
-          cs = gaps (cellCuts (rotaOf s))
+    -- one era more
+    pub masks-more : (i : ℕ) {cycle h dates : ℕ} {pairs : List ℕ} → i < ne → cycle ≡ cycleOf s → h ≡ hoursOf s
+        → dates ≡ recordsThat s (headerLength s) h (datesHold (getD eras i 0)) → InCells s h cells nc pairs
+        → masksTo s eras (i + 1) ≡ masksTo s eras i ++ listOf nc (maskIn cycle dates (getD eras i 0) (getD eras (i + 1) 0) cells pairs)
+    unfolding masksTo
+    masks-more i {cycle} {h} {dates} {pairs} hi ec eh ed in-cells =
+        ap (map (maskOf (rotaOf s))) (ap (λ (es : List Gap). fieldsOf es cs) (listOf-more i (gapAt eras)) ∙ fields-snoc (listOf i (gapAt eras)) cs (gapAt eras i))
+        ∙ map-append (maskOf (rotaOf s)) (fieldsOf (listOf i (gapAt eras)) cs) (map (fieldOf (gapAt eras i)) cs)
+        ∙ ap (λ (l : List ℕ). map (maskOf (rotaOf s)) (fieldsOf (listOf i (gapAt eras)) cs) ++ l) (sym row)
+      where
+        cs : List Gap
+        cs = gaps (cellCuts (rotaOf s))
 
-          row : listOf nc (maskIn cycle dates (getD eras i 0) (getD eras (i + 1) 0) cells pairs)
-              ≡ map (maskOf (rotaOf s)) (map (fieldOf (gapAt eras i)) (gaps (cellCuts (rotaOf s))))
-          row = rw ec (row-is i dates pairs hi (rw eh at ed) (rw eh at in-cells))
+        row : listOf nc (maskIn cycle dates (getD eras i 0) (getD eras (i + 1) 0) cells pairs)
+            ≡ map (maskOf (rotaOf s)) (map (fieldOf (gapAt eras i)) (gaps (cellCuts (rotaOf s))))
+        row = rw ec (row-is i dates pairs hi (rw eh at ed) (rw eh at in-cells))
 
-          stored : take (first + nc) after ≡ map (maskOf (rotaOf s)) (fieldsOf (listOf (i + 1) (gapAt eras)) (gaps (cellCuts (rotaOf s))))
-          stored =
-              e ∙ ap₂ (λ (x y : List ℕ). x ++ y) (w .stored) row
-              ∙ sym (map-append (maskOf (rotaOf s)) (fieldsOf (listOf i (gapAt eras)) cs) (map (fieldOf (gapAt eras i)) cs))
-              ∙ ap (map (maskOf (rotaOf s)))
-              (sym (fields-snoc (listOf i (gapAt eras)) cs (gapAt eras i)) ∙ ap (λ (es : List Gap). fieldsOf es cs) (sym (listOf-more i (gapAt eras))))
-
-      pub written-all : ne ≤ i → take (ne * nc) masks ≡ map (maskOf (rotaOf s)) (fields (rotaOf s))
-      unfolding fields
-      written-all l =
-          let q : i ≡ ne = le-antisymm (w .below) l in
-          let p : ne * nc ≡ first = omega (arith, w .place, ap (λ (k : ℕ). k * nc) q) in
-          ap (λ (k : ℕ). take k masks) p ∙ w .stored
-          ∙ ap (λ (es : List Gap). map (maskOf (rotaOf s)) (fieldsOf es (gaps (cellCuts (rotaOf s)))))
-          (ap (λ (k : ℕ). listOf k (gapAt eras)) q ∙ sym (gaps-at _ eras ne (ce .long) (ce .are)))
+    -- after the last they are those of all fields
+    pub masks-all : (i : ℕ) → i ≤ ne → ne ≤ i → masksTo s eras i ≡ map (maskOf (rotaOf s)) (fields (rotaOf s))
+    unfolding masksTo fields
+    masks-all i h l =
+        let q : i ≡ ne = le-antisymm h l in
+        ap (λ (es : List Gap). map (maskOf (rotaOf s)) (fieldsOf es (gaps (cellCuts (rotaOf s)))))
+        (ap (λ (k : ℕ). listOf k (gapAt eras)) q ∙ sym (gaps-at _ eras ne (ce .long) (ce .are)))
 
     pub fields-are : fields (rotaOf s) ≡ fieldsOf (listOf ne (gapAt eras)) (listOf nc (gapAt cells))
     unfolding fields
@@ -177,7 +163,6 @@ module _ (s : List ℕ) (ok : rotaJudged s ≡ 0) where
       unfolding cellCuts rotaOf
       cells-cut e l = added-cuts (cycleOf s) (rw e at p) (cell-values (rotaOf s) (accepted-well s ok)) (omega arith) (omega (arith, cells-few))
 
-  -- the cuts, and the masks beside them
   pub divided : {a a′ b b′ : List ℕ} {m n c : ℕ} → c ≡ cycleOf s → Added a 0 (0 ∷ E ∷ hoursCuts (rotaOf s .hours)) b m → 66 ≤ length b
       → Added a′ 0 (0 ∷ c ∷ pairsCuts (rotaOf s .hours)) b′ n → 514 ≤ length b′
       → Divided s (record { eras = b; «era_count» = m - 1; cells = b′; «cell_count» = n - 1 })
@@ -187,16 +172,6 @@ module _ (s : List ℕ) (ok : rotaJudged s ≡ 0) where
         few-cells = omega (arith, cells-few q);
         era-cuts = eras-cut p l;
         cell-cuts = cells-cut q e k;
-      }
-
-  pub laid : {d : Division} {masks : List ℕ} → Divided s d → d .«era_count» * d .«cell_count» ≤ length masks
-      → take (d .«era_count» * d .«cell_count») masks ≡ map (maskOf (rotaOf s)) (fields (rotaOf s)) → Laid s d masks
-  laid {d} w room e =
-      record {
-        divided = w;
-        masks-are = e;
-        masks-long = room;
-        count = fields-number (d .eras) (d .cells) (d .«era_count») (d .«cell_count») (w .era-cuts) (w .cell-cuts);
       }
 
 -- 65 eras by 513 cells are the most

@@ -5,14 +5,15 @@ use mathlib.Core.List.{List, map}
 use lib.Dec.{ltb}
 use lib.ListN.{length, getD, take}
 use Rattle.ground.specs.Choice.{pick}
+use Rattle.ground.specs.Sequence.{listOf}
 use Rattle.bitset.specs.Sets.{insert, intersection}
 use Rattle.minutes.specs.Minutes.{E}
 use Rattle.minutes.specs.First.{firstIn}
 use Rattle.hours.specs.Inside.{pairsHold, recordsThat}
 use Rattle.rota.specs.RotaBytes.{headerLength, cycleOf, hoursOf, rotaOf}
 use Rattle.rota.specs.RotaRefusals.{rotaJudged}
-use Rattle.derivation.specs.Cuts.{Gap}
-use Rattle.derivation.specs.Rewriting.{eraCuts, cellCuts, fields}
+use Rattle.derivation.specs.Cuts.{Gap, gaps}
+use Rattle.derivation.specs.Rewriting.{eraCuts, cellCuts, fieldsOf}
 use Rattle.derivation.specs.Masks.{maskOf}
 use Rattle.grid.specs.declared.Division.{Division}
 
@@ -51,16 +52,13 @@ pub record Ready (s : List ℕ) (c from h : ℕ) (eras : List ℕ) (ne : ℕ) (c
   pub in-cells : InCells s h cells nc pairs
   pub pairs-long : nc ≤ length pairs
 
+-- the masks of the fields of the first i eras
+unfoldable pub masksTo : List ℕ → List ℕ → ℕ → List ℕ
+masksTo s eras i = map (maskOf (rotaOf s)) (fieldsOf (listOf i (gapAt eras)) (gaps (cellCuts (rotaOf s))))
+
 -- the division has the rota's cuts
 pub record Divided (s : List ℕ) (d : Division) : Type 0 where
   pub few-eras : d .«era_count» ≤ 65
   pub few-cells : d .«cell_count» ≤ 513
   pub era-cuts : Cuts (eraCuts (rotaOf s)) (d .eras) (d .«era_count») E
   pub cell-cuts : Cuts (cellCuts (rotaOf s)) (d .cells) (d .«cell_count») (cycleOf s)
-
--- with the mask of each field: eras, then cells
-pub record Laid (s : List ℕ) (d : Division) (masks : List ℕ) : Type 0 where
-  pub divided : Divided s d
-  pub masks-are : take (d .«era_count» * d .«cell_count») masks ≡ map (maskOf (rotaOf s)) (fields (rotaOf s))
-  pub masks-long : d .«era_count» * d .«cell_count» ≤ length masks
-  pub count : length (fields (rotaOf s)) ≡ d .«era_count» * d .«cell_count»

@@ -1,0 +1,177 @@
+// The fields of a rota by kind. What a role has in a field depends only on the mask of the field, which is the set of hours that hold there; the distinct
+// masks are numbered once for all roles, in the order of their first fields. A field without a minute is of kind 0, one with mask k of kind k + 1.
+ghost use mathlib.Core.Path.{_≡_};
+ghost use mathlib.Core.List.{_++_};
+ghost use Prim.Native.Nat.{ℕ, _+_, _*_, _≤_, _<_};
+ghost use lib.ListN.{length, take};
+ghost use Rattle.ground.specs.Sequence.{listOf};
+ghost use Rattle.rota.specs.Inside.{Located};
+ghost use Rattle.derivation.specs.Kinds.{masksFrom, kindsFrom};
+ghost use Rattle.trees.specs.Tree.{Indexed};
+ghost use Rattle.grid.specs.Grid.{Divided, Ready};
+ghost use Rattle.kinds.specs.Kinds.{keys, Held, Known, Found, RowRoom, Room, bare, Numbered, NumberedTo};
+use grid::Division;
+use rota::Layout;
+
+// The kind of a mask, and how many distinct masks there are with it.
+pub struct Kind {
+    pub kind: usize,
+    pub masks: usize,
+}
+
+// The kind of mask m, after a field with mask `last` of kind `kind`: neighbours often have the same.
+fn kind_of(
+    m: u64,
+    last: u64,
+    kind: usize,
+    pairs: &mut [u64],
+    links: &mut [u16],
+    w: usize,
+    d: usize,
+) -> Kind
+    requires { ⌜ (2 * d + 1 < length (now pairs)) × (w + 2 * d + 1 < length (now links)) × (d < 33345) × (0 < w) × (w ≤ 16384) ⌝ }
+    requires { ⌜ Held w d (now pairs) (now links) × Known (keys d (now pairs)) last kind ⌝ }
+    ensures { λ k. ⌜ Found m d (now (pairs .entry)) (now (pairs .exit)) k × Held w (k .masks) (now (pairs .exit)) (now (links .exit)) ⌝ }
+{
+    if m == last {
+        return Kind { kind, masks: d };
+    }
+    if m == 0 {
+        return Kind { kind: 0, masks: d };
+    }
+    let k = index::enter(0, pairs, links, w, 18446744073709551615, 0, d, m, 0);
+    if k < d {
+        return Kind {
+            kind: k + 1,
+            masks: d,
+        };
+    }
+    Kind {
+        kind: k + 1,
+        masks: d + 1,
+    }
+}
+
+// The kinds of the n fields of an era with these masks, at `first` and the places after it: how many distinct masks there are then.
+fn number_row(
+    row: &[u64],
+    n: usize,
+    kinds: &mut [u16],
+    first: usize,
+    pairs: &mut [u64],
+    links: &mut [u16],
+    w: usize,
+    d: usize,
+) -> usize
+    requires { ⌜ RowRoom n d first w (now row) (now kinds) (now pairs) (now links) × Held w d (now pairs) (now links) ⌝ }
+    ensures { λ r. ⌜ (take (first + n) (now (kinds .exit)) ≡ take first (now (kinds .entry)) ++ kindsFrom (keys d (now (pairs .entry))) (take n (now (row .entry))))
+        × (keys r (now (pairs .exit)) ≡ masksFrom (keys d (now (pairs .entry))) (take n (now (row .entry))))
+        × Held w r (now (pairs .exit)) (now (links .exit)) × (r ≤ d + n) ⌝ }
+{
+    let mut count = d;
+    let mut last = 0;
+    let mut kind = 0;
+    let mut c = 0;
+    while c < n {
+        let m = row[c];
+        let k = kind_of(m, last, kind, pairs, links, w, count);
+        kinds[first + c] = k.kind as u16;
+        last = m;
+        kind = k.kind;
+        count = k.masks;
+        c += 1;
+    }
+    count
+}
+
+// The kinds of all fields: eras, then cells. How many distinct masks there are.
+fn number_all(
+    s: &[u8],
+    cycle: u32,
+    from: usize,
+    h: usize,
+    eras: &[u32],
+    ne: usize,
+    cells: &[u32],
+    nc: usize,
+    held: &[u64],
+    row: &mut [u64],
+    kinds: &mut [u16],
+    pairs: &mut [u64],
+    links: &mut [u16],
+    w: usize,
+) -> usize
+    requires { ⌜ Ready (now s) cycle from h (now eras) ne (now cells) nc (now held) × (nc ≤ length (now row)) ⌝ }
+    requires { ⌜ Room (ne * nc) w (now kinds) (now pairs) (now links) × Held w 0 (now pairs) (now links) ⌝ }
+    ensures { λ d. ⌜ NumberedTo (now (s .entry)) (ne * nc) d (now (kinds .exit)) (now (pairs .exit)) ⌝ }
+{
+    let mut i = 0;
+    let mut first = 0;
+    let mut d = 0;
+    while i < ne {
+        let b = eras[i];
+        let e = eras[i + 1];
+        let dates = grid::era_mask(s, from, h, b);
+        grid::era_masks(cycle, dates, b, e, cells, nc, held, row, 0);
+        d = number_row(row, nc, kinds, first, pairs, links, w, d);
+        first += nc;
+        i += 1;
+    }
+    d
+}
+
+// The d distinct masks, without the bit that each of them has for always.
+fn keep(pairs: &[u64], d: usize, sets: &mut [u32])
+    requires { ⌜ (2 * d ≤ length (now pairs)) × (d ≤ length (now sets)) ⌝ }
+    ensures { λ _. ⌜ take d (now (sets .exit)) ≡ listOf d (bare (now (pairs .entry))) ⌝ }
+{
+    let mut k = 0;
+    while k < d {
+        sets[k] = (pairs[2 * k] % 4294967296) as u32;
+        k += 1;
+    }
+}
+
+// Numbers the fields of a rota that is divided: the kind of each, and the distinct masks without the bit for always. How many these are.
+pub fn number(
+    s: &[u8],
+    l: Layout,
+    division: Division,
+    held: &mut [u64],
+    row: &mut [u64],
+    kinds: &mut [u16],
+    sets: &mut [u32],
+    pairs: &mut [u64],
+    links: &mut [u16],
+    w: usize,
+) -> usize
+    requires { ⌜ Located (now s) l × Divided (now s) division × (division .«cell_count» ≤ length (now held)) × (division .«cell_count» ≤ length (now row)) ⌝ }
+    requires { ⌜ Room (division .«era_count» * division .«cell_count») w (now kinds) (now pairs) (now links) × (division .«era_count» * division .«cell_count» ≤ length (now sets)) ⌝ }
+    ensures { λ d. ⌜ Numbered (now (s .entry)) (division .«era_count» * division .«cell_count») d (now (kinds .exit)) (now (sets .exit)) ⌝ }
+{
+    let n = l.counts;
+    let h = n.hours as usize;
+    let eras = division.eras;
+    let cells = division.cells;
+    let nc = division.cell_count;
+    grid::cell_masks(s, l.hours_at, h, &cells, nc, held);
+    index::clear(links, w);
+    let d = number_all(
+        s,
+        n.cycle,
+        l.hours_at,
+        h,
+        &eras,
+        division.era_count,
+        &cells,
+        nc,
+        held,
+        row,
+        kinds,
+        pairs,
+        links,
+        w,
+    );
+    keep(pairs, d, sets);
+    d
+}
