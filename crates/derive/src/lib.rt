@@ -1,60 +1,138 @@
-// One role's derived roles: the distinct pairs of sets that it has in the fields, in the order in which they come, and which one each field has.
-ghost use Prim.Native.Nat.{_<_};
-ghost use Rattle.derive.specs.Derive.{Room, DerivedTo};
+// One role's derived roles: the distinct pairs of sets that it has over the distinct masks of the fields, in the order in which they come, and which one
+// each mask gives.
+ghost use mathlib.Core.Path.{_≡_};
+ghost use Prim.Native.Nat.{_+_, _*_, _<_, _≤_};
+ghost use lib.ListN.{length};
+ghost use Rattle.trees.specs.Tree.{Indexed};
+ghost use Rattle.index.specs.Entries.{entriesTo};
+ghost use Rattle.marking.specs.Role.{keptBy};
+ghost use Rattle.derive.specs.Derive.{roleMade, Ready, Settled, Stepped, Room, Derived};
 use marking::Role;
 
-pub struct Count {
+// The mark of a mask, and how many derived roles there are with it.
+pub struct Step {
+    pub mark: usize,
     pub entries: usize,
-    pub rows: usize,
 }
 
-// The marks of the first n masks, in the first n places of `work`, and the pairs of sets that they are the numbers of. It stops once it has more than
-// `limit` rows. From place n on `work` is scratch for the index of the pairs, which goes by the members a and b: all users and all permissions that the
-// role can have.
+// The mark of mask m, after mask `last` with `mark`: neighbours often differ only in hours that the role does not name.
+fn next_mark(
+    source: u8,
+    on: u32,
+    users: &[u64; 33],
+    user_slots: u64,
+    user_table: &[u64; 128],
+    user_groups: usize,
+    permissions: &[u64; 33],
+    permission_slots: u64,
+    permission_table: &[u64; 128],
+    permission_groups: usize,
+    pairs: &mut [u64],
+    links: &mut [u16],
+    w: usize,
+    a: u64,
+    b: u64,
+    d: usize,
+    m: u64,
+    last: u64,
+    mark: usize,
+) -> Step
+    requires { ⌜ (2 * d + 1 < length (now pairs)) × (w + 2 * d + 1 < length (now links)) × (d < 33345) × (0 < w) × (w ≤ 16384) × (on < 64) ⌝ }
+    requires { ⌜ Ready (now users) «user_slots» (now «user_table») «user_groups» a × Ready (now permissions) «permission_slots» (now «permission_table») «permission_groups» b ⌝ }
+    requires { ⌜ Indexed w d (now pairs) (now links) a b
+        × Settled (entriesTo source d (now pairs)) (keptBy (roleMade source on (now users) (now permissions)) last) mark × (mark ≤ d) ⌝ }
+    ensures { λ k. ⌜ Stepped source (keptBy (roleMade source on (now (users .entry)) (now (permissions .entry))) m) d (now (pairs .entry)) (now (pairs .exit)) k
+        × Indexed w (k .entries) (now (pairs .exit)) (now (links .exit)) a b ⌝ }
+{
+    if m == last {
+        return Step { mark, entries: d };
+    }
+    let x = marking::sets_in(
+        on,
+        users,
+        user_slots,
+        user_table,
+        user_groups,
+        permissions,
+        permission_slots,
+        permission_table,
+        permission_groups,
+        m,
+    );
+    let k = marking::mark_field(source, x, pairs, links, w, a, b, d);
+    if k == d + 1 {
+        return Step {
+            mark: k,
+            entries: d + 1,
+        };
+    }
+    Step {
+        mark: k,
+        entries: d,
+    }
+}
+
+// The marks of the masks with the first n sets of hours, behind that of kind 0, and the pairs of sets that they are the numbers of: how many pairs. The
+// index of the pairs has w trees, and goes by the members a and b: all users and all permissions that the role can have.
 pub fn derive(
     role: Role,
-    masks: &[u64],
+    sets: &[u32],
     n: usize,
-    limit: usize,
     pairs: &mut [u64],
-    work: &mut [u16],
-) -> Count
-    requires { ⌜ (role .on < 64) × Room n (now masks) (now pairs) (now work) ⌝ }
-    ensures { λ r. ⌜ DerivedTo limit role (now (masks .entry)) n (now (pairs .exit)) (now (work .exit)) r ⌝ }
+    marks: &mut [u16],
+    links: &mut [u16],
+    w: usize,
+) -> usize
+    requires { ⌜ (role .on < 33) × Room n w (now sets) (now pairs) (now marks) (now links) ⌝ }
+    ensures { λ d. ⌜ Derived role (now (sets .entry)) n (now (pairs .exit)) (now (marks .exit)) d ⌝ }
 {
     let source = role.source;
     let on = role.on;
     let users = role.users;
     let permissions = role.permissions;
-    let user_slots = marking::used_in(&users);
-    let permission_slots = marking::used_in(&permissions);
-    let a = marking::union_in(&users, user_slots, user_slots);
-    let b = marking::union_in(&permissions, permission_slots, permission_slots);
-    index::clear(&mut work[n..]);
+    let user_slots = unions::used_in(&users);
+    let permission_slots = unions::used_in(&permissions);
+    let a = unions::union_in(&users, user_slots, user_slots);
+    let b = unions::union_in(&permissions, permission_slots, permission_slots);
+    let mut user_table = [0u64; 128];
+    let mut permission_table = [0u64; 128];
+    let user_groups = unions::fill(&users, user_slots, &mut user_table);
+    let permission_groups = unions::fill(&permissions, permission_slots, &mut permission_table);
+    let named = bitset::with(bitset::either(user_slots, permission_slots), on);
+    index::clear(links, w);
+    marks[0] = 0;
     let mut d = 0;
-    let mut rows = 0;
+    let mut last = 0;
+    let mut mark = 0;
     let mut i = 0;
     while i < n {
-        if limit < rows {
-            return Count { entries: d, rows };
-        }
-        let x = marking::sets_in(
+        let m = bitset::both(bitset::with(sets[i] as u64, 32), named);
+        let k = next_mark(
+            source,
             on,
             &users,
             user_slots,
+            &user_table,
+            user_groups,
             &permissions,
             permission_slots,
-            masks[i],
+            &permission_table,
+            permission_groups,
+            pairs,
+            links,
+            w,
+            a,
+            b,
+            d,
+            m,
+            last,
+            mark,
         );
-        let m = marking::mark_field(source, x, pairs, &mut work[n..], a, b, d);
-        if m == d + 1 {
-            d += 1;
-        }
-        if 0 < m {
-            rows += 1;
-        }
-        work[i] = m as u16;
+        marks[i + 1] = k.mark as u16;
+        last = m;
+        mark = k.mark;
+        d = k.entries;
         i += 1;
     }
-    Count { entries: d, rows }
+    d
 }

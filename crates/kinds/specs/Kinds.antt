@@ -4,11 +4,10 @@ use mathlib.Core.Path.{_≡_}
 use mathlib.Core.List.{List, [], map}
 use lib.ListN.{length, getD, take}
 use Rattle.ground.specs.Sequence.{listOf}
-use Rattle.bitset.specs.Sets.{insert}
 use Rattle.rota.specs.RotaBytes.{rotaOf}
 use Rattle.derivation.specs.Rewriting.{fields}
 use Rattle.derivation.specs.Masks.{maskOf}
-use Rattle.derivation.specs.Kinds.{addMask, masksFrom, kindOf, kindsFrom}
+use Rattle.derivation.specs.Kinds.{addMask, masksFrom, kindOf, kindsFrom, masksIn}
 use Rattle.trees.specs.Tree.{usersAt, permissionsAt, Indexed}
 use Rattle.kinds.specs.declared.Kind.{Kind}
 
@@ -67,12 +66,8 @@ pub record NumberedTo (s : List ℕ) (n d : ℕ) (kinds pairs : List ℕ) : Type
 unfoldable pub bare : List ℕ → ℕ → ℕ
 bare pairs k = usersAt pairs k % 4294967296
 
--- the mask with these hours
-abbrev pub whole : ℕ → ℕ
-whole x = insert x 32
-
--- the kinds of all n fields, and the d distinct masks, which each have the bit for always besides
+-- the kinds of all n fields, and the hours of the d distinct masks
 pub record Numbered (s : List ℕ) (n d : ℕ) (kinds sets : List ℕ) : Type 0 where
   pub few : d ≤ n
   pub kinds-are : take n kinds ≡ kindsFrom [] (masksOf s)
-  pub sets-are : map whole (take d sets) ≡ masksFrom [] (masksOf s)
+  pub sets-are : masksIn sets d ≡ masksFrom [] (masksOf s)
