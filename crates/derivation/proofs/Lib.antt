@@ -10,7 +10,7 @@ pub mod JoinedOrder
 pub mod Joining
 pub mod RoleByRole
 pub mod RoleMarks
-pub mod SetLaws
+pub mod KindLaws
 pub mod RunLaws
 pub mod CutLaws
 pub mod ConstancyLaws
