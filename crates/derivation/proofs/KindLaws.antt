@@ -117,23 +117,23 @@ masks-from P ds (m ∷ ms) p q =
 -- ---- what the masks give
 
 -- what a mask gives is nothing, or is among the derived roles
-abbrev Known : List Entry → Option Entry → Type 0
+abbrev pub Known : List Entry → Option Entry → Type 0
 Known es none = Unit {0}
 Known es (some e) = there same e es ≡ true
 
-known-next : (es : List Entry) (o : Option Entry) → Known (nextEntries es o) o
+pub known-next : (es : List Entry) (o : Option Entry) → Known (nextEntries es o) o
 unfolding nextEntries
 known-next es none = tt
 known-next es (some e) = add-there same same-self es e
 
 -- then it adds nothing
-known-same : (es : List Entry) (o : Option Entry) → Known es o → nextEntries es o ≡ es
+pub known-same : (es : List Entry) (o : Option Entry) → Known es o → nextEntries es o ≡ es
 unfolding nextEntries
 known-same es none k = refl
 known-same es (some e) k = add-found same es e (place-below same e es k)
 
 -- its mark is what it was before it was added
-mark-next : (es : List Entry) (o : Option Entry) → markOf (nextEntries es o) o ≡ markOf es o
+pub mark-next : (es : List Entry) (o : Option Entry) → markOf (nextEntries es o) o ≡ markOf es o
 unfolding nextEntries markOf
 mark-next es none = refl
 mark-next es (some e) = ap suc (place-add same same-self es e)
@@ -145,7 +145,7 @@ known-step es none p k = (tt, refl)
 known-step es (some e) none k = (k, refl)
 known-step es (some e) (some d) k = (addAll-keeps same e es (d ∷ []) k, ap suc (place-stays same e es (d ∷ []) k))
 
-map-at : (f : ℕ → ℕ) (l : List ℕ) (i : ℕ) → i < length l → getD (map f l) i 0 ≡ f (getD l i 0)
+pub map-at : (f : ℕ → ℕ) (l : List ℕ) (i : ℕ) → i < length l → getD (map f l) i 0 ≡ f (getD l i 0)
 map-at f [] i h = absurd (omega arith)
 map-at f (x ∷ l) zero h = refl
 map-at f (x ∷ l) (suc i) h = map-at f l i (omega arith)

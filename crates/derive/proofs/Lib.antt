@@ -1,3 +1,2 @@
-pub mod PartLaws
-pub mod ScratchLaws
+pub mod NamedLaws
 pub mod DeriveLaws
