@@ -134,9 +134,9 @@ module _ (source d : ℕ) (pairs : List ℕ) (u p : ℕ) where
       }
 
 -- the tree of as many pairs as there are then
-pub index-old : {d : ℕ} {pairs links : List ℕ} {a b : ℕ} → Indexed d pairs links a b → (k : ℕ) → k < d → Indexed (after d k) pairs links a b
-index-old {d} {pairs} {links} {a} {b} x k h =
-    subst (λ (t : Bool). Indexed (pick t (d + 1) d) pairs links a b) (sym (ne-eqb k d (λ e. omega arith))) x
+pub index-old : {w d : ℕ} {pairs links : List ℕ} {a b : ℕ} → Indexed w d pairs links a b → (k : ℕ) → k < d → Indexed w (after d k) pairs links a b
+index-old {w} {d} {pairs} {links} {a} {b} x k h =
+    subst (λ (t : Bool). Indexed w (pick t (d + 1) d) pairs links a b) (sym (ne-eqb k d (λ e. omega arith))) x
 
-pub index-new : (d : ℕ) {pairs links : List ℕ} {a b : ℕ} → Indexed (d + 1) pairs links a b → Indexed (after d d) pairs links a b
-index-new d {pairs} {links} {a} {b} x = subst (λ (t : Bool). Indexed (pick t (d + 1) d) pairs links a b) (sym (eq-eqb d d refl)) x
+pub index-new : (d : ℕ) {w : ℕ} {pairs links : List ℕ} {a b : ℕ} → Indexed w (d + 1) pairs links a b → Indexed w (after d d) pairs links a b
+index-new d {w} {pairs} {links} {a} {b} x = subst (λ (t : Bool). Indexed w (pick t (d + 1) d) pairs links a b) (sym (eq-eqb d d refl)) x

@@ -8,26 +8,36 @@ ghost use Rattle.index.specs.Entries.{Entered, withPair, after};
 ghost use Rattle.trees.specs.Tree.{Within, Indexed, Absent, Ends};
 
 // The pair u and p, which is not among the first d, comes next, and is linked where its walk ended.
-fn add(pairs: &mut [u64], links: &mut [u16], a: u64, b: u64, d: usize, u: u64, p: u64, hook: usize)
-    requires { ⌜ (2 * d + 1 < length (now pairs)) × (512 + 2 * d + 1 < length (now links)) × (d < 33345) ⌝ }
-    requires { ⌜ Indexed d (now pairs) (now links) a b × Within u a × Within p b × Absent d (now pairs) u p × Ends d (now links) a b u p hook ⌝ }
+fn add(
+    pairs: &mut [u64],
+    links: &mut [u16],
+    w: usize,
+    a: u64,
+    b: u64,
+    d: usize,
+    u: u64,
+    p: u64,
+    hook: usize,
+)
+    requires { ⌜ (2 * d + 1 < length (now pairs)) × (w + 2 * d + 1 < length (now links)) × (d < 33345) × (0 < w) × (w ≤ 16384) ⌝ }
+    requires { ⌜ Indexed w d (now pairs) (now links) a b × Within u a × Within p b × Absent d (now pairs) u p × Ends w d (now links) a b u p hook ⌝ }
     ensures { λ _. ⌜ (now (pairs .exit) ≡ withPair (now (pairs .entry)) d u p)
-        × Indexed (d + 1) (now (pairs .exit)) (now (links .exit)) a b ⌝ }
+        × Indexed w (d + 1) (now (pairs .exit)) (now (links .exit)) a b ⌝ }
 {
     pairs[2 * d] = u;
     pairs[2 * d + 1] = p;
     links[hook] = (d + 1) as u16;
-    links[512 + 2 * d] = 0;
-    links[512 + 2 * d + 1] = 0;
+    links[w + 2 * d] = 0;
+    links[w + 2 * d + 1] = 0;
 }
 
-// No pair yet: an index that has none, whatever pairs are to come.
-pub fn clear(links: &mut [u16])
-    requires { ⌜ 512 ≤ length (now links) ⌝ }
-    ensures { λ _. ⌜ ((pairs : List ℕ) (a b : ℕ) → Indexed 0 pairs (now (links .exit)) a b) ⌝ }
+// No pair yet: an index of w trees that has none, whatever pairs are to come.
+pub fn clear(links: &mut [u16], w: usize)
+    requires { ⌜ w ≤ length (now links) ⌝ }
+    ensures { λ _. ⌜ ((pairs : List ℕ) (a b : ℕ) → Indexed w 0 pairs (now (links .exit)) a b) ⌝ }
 {
     let mut i = 0;
-    while i < 512 {
+    while i < w {
         links[i] = 0;
         i += 1;
     }
@@ -38,22 +48,23 @@ pub fn enter(
     source: u8,
     pairs: &mut [u64],
     links: &mut [u16],
+    w: usize,
     a: u64,
     b: u64,
     d: usize,
     u: u64,
     p: u64,
 ) -> usize
-    requires { ⌜ (2 * d + 1 < length (now pairs)) × (512 + 2 * d + 1 < length (now links)) × (d < 33345) ⌝ }
-    requires { ⌜ Indexed d (now pairs) (now links) a b × Within u a × Within p b ⌝ }
+    requires { ⌜ (2 * d + 1 < length (now pairs)) × (w + 2 * d + 1 < length (now links)) × (d < 33345) × (0 < w) × (w ≤ 16384) ⌝ }
+    requires { ⌜ Indexed w d (now pairs) (now links) a b × Within u a × Within p b ⌝ }
     ensures { λ k. ⌜ Entered source (entryMade source u p) d (now (pairs .entry)) (now (pairs .exit)) k
-        × Indexed (after d k) (now (pairs .exit)) (now (links .exit)) a b ⌝ }
+        × Indexed w (after d k) (now (pairs .exit)) (now (links .exit)) a b ⌝ }
 {
-    let f = trees::find(pairs, links, a, b, d, u, p);
+    let f = trees::find(pairs, links, w, a, b, d, u, p);
     let k = f.place;
     if k < d {
         return k;
     }
-    add(pairs, links, a, b, d, u, p, f.hook);
+    add(pairs, links, w, a, b, d, u, p, f.hook);
     d
 }

@@ -76,7 +76,7 @@ same-length-2 c = search needs
 
 returns : tie.Need-returns
 unfolding withPair
-returns c = let a = c .args in let p = c .pre in (refl, index-add (a .d) (a .pairs .now) (a .u) (a .p) (p .0 .0) (p .1 .0) (p .0 .1) (p .1 .1) (p .1 .2) (p .1 .3) (p .1 .4))
+returns c = let a = c .args in let p = c .pre in (refl, index-add (a .w) (p .0 .3) (a .d) (a .pairs .now) (a .u) (a .p) (p .0 .0) (p .1 .0) (p .0 .1) (p .1 .1) (p .1 .2) (p .1 .3) (p .1 .4))
 
 pub add-spec : {M : Type 1} → statement M
 add-spec =

@@ -7,10 +7,10 @@ use Rattle.index.proofs.clear.Statement.{statement}
 use Rattle.index.proofs.clear.Tie as tie
 
 abbrev Inv-loop : tie.InvT-loop
-Inv-loop links₀ i₀ links i = (i ≤ 512) × (length links ≡ length links₀) × ((h : ℕ) → h < i → getD links h 0 ≡ 0)
+Inv-loop links₀ w i₀ links i = (i ≤ w) × (length links ≡ length links₀) × ((h : ℕ) → h < i → getD links h 0 ≡ 0)
 
 abbrev μ-loop : tie.MeasureT-loop
-μ-loop links₀ i₀ links i = 512 - i
+μ-loop links₀ w i₀ links i = w - i
 
 loop-holds : tie.Need-loop-holds Inv-loop μ-loop
 loop-holds c = (omega arith, refl, λ h l. absurd (omega arith))
@@ -34,7 +34,7 @@ same-length : tie.Need-same-length Inv-loop μ-loop
 same-length c = c .before .loop .inv .1
 
 returns : tie.Need-returns Inv-loop μ-loop
-returns c = λ pairs a b. index-none (c .before .loop .links) pairs a b (λ h l. c .before .loop .inv .2 h (omega arith))
+returns c = λ pairs a b. index-none (c .before .before .args .w) (c .before .loop .links) pairs a b (λ h l. c .before .loop .inv .2 h (omega arith))
 
 pub clear-spec : {M : Type 1} → statement M
 clear-spec =

@@ -5,7 +5,7 @@ use Rattle.index.proofs.enter.Statement.{statement}
 use Rattle.index.proofs.enter.Tie as tie
 
 find-requires : tie.Need-find-requires
-find-requires c κs = let p = c .before .before .before .before .pre in ((omega (arith, p .0), omega (arith, p .0), p .0 .2), p .1)
+find-requires c κs = let p = c .before .before .before .before .pre in ((omega (arith, p .0), omega (arith, p .0), p .0 .2, p .0 .3, p .0 .4), p .1)
 
 same-length : tie.Need-same-length
 same-length c = search needs
