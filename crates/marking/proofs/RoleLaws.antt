@@ -21,14 +21,15 @@ use Rattle.ground.proofs.ListLaws.{all-with, some-same}
 use Rattle.ground.proofs.SequenceLaws.{get-listOf}
 use Rattle.bitset.specs.Sets.{has, setOf}
 use Rattle.bitset.proofs.SetLaws.{has-setOf, setOf-lt, ext}
+use Rattle.unions.specs.Union.{unionOf}
+use Rattle.unions.proofs.UnionLaws.{has-union-of, union-lt}
 use Rattle.hours.specs.Hours.{dangling}
 use Rattle.hours.specs.declared.HoursRef.{HoursRef}
 use Rattle.hours.specs.declared.HoursRef.the-variants.{Always, Numbered}
 use Rattle.rota.specs.Rota.{Row, Rota, roleHours}
 use Rattle.rota.specs.RotaWell.{RefWell, RowWell, RotaWell}
 use Rattle.derivation.specs.Masks.{slotOf, assignedIn, usersIn, permissionsIn, keptIn}
-use Rattle.marking.specs.Role.{unionOf, setsMade, setsIn, keptWith, keptBy, atSlot, bySlot, roleOf}
-use Rattle.marking.proofs.UnionLaws.{has-union-of, union-lt}
+use Rattle.marking.specs.Role.{setsMade, setsIn, keptWith, keptBy, atSlot, bySlot, roleOf}
 
 pub slot-small : (h : ℕ) (ref : HoursRef) → h ≤ 32 → RefWell h ref → slotOf ref < 33
 unfolding slotOf dangling

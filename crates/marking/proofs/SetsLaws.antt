@@ -12,9 +12,10 @@ use Rattle.ground.specs.Choice.{pick}
 use Rattle.ground.proofs.BoolLaws.{clash}
 use Rattle.bitset.specs.Sets.{has}
 use Rattle.bitset.proofs.SetLaws.{has-none}
+use Rattle.unions.specs.Union.{unionOf}
 use Rattle.trees.specs.Tree.{Within}
 use Rattle.marking.specs.declared.Sets.{Sets}
-use Rattle.marking.specs.Role.{unionOf, setsMade, setsIn, entryOf, keptWith, Gathered}
+use Rattle.marking.specs.Role.{setsMade, setsIn, entryOf, keptWith, Gathered}
 use Rattle.marking.proofs.UnionLaws.{union-within}
 
 -- ---- a field is kept by both sets

@@ -1,33 +1,21 @@
 -- A role by hours: what it has in a field with a given mask, and the role that a rota's rows make.
-use Prim.Native.Nat.{ℕ, zero, suc}
+use Prim.Native.Nat.{ℕ}
 use mathlib.Core.Path.{_≡_}
-use mathlib.Core.Bool.{Bool, not, _&&_}
+use mathlib.Core.Bool.{not, _&&_}
 use mathlib.Core.Option.{Option, none, some}
 use mathlib.Core.List.{List}
 use lib.Dec.{eqb}
-use lib.ListN.{getD}
 use Rattle.ground.specs.Choice.{pick}
 use Rattle.ground.specs.Search.{any}
 use Rattle.ground.specs.Sequence.{listOf}
-use Rattle.bitset.specs.Sets.{has, setOf, union}
+use Rattle.bitset.specs.Sets.{has, setOf}
+use Rattle.unions.specs.Union.{unionOf, usedIn}
 use Rattle.rota.specs.Rota as rota
 use Rattle.table.specs.Table.{Entry}
 use Rattle.derivation.specs.Masks.{slotOf}
 use Rattle.trees.specs.Tree.{Within}
 use Rattle.marking.specs.declared.Role.{Role}
 use Rattle.marking.specs.declared.Sets.{Sets}
-
--- the union of those of the first k sets whose numbers are in the mask
-unfoldable pub unionOf : List ℕ → ℕ → ℕ → ℕ
-unionOf sets m zero = 0
-unionOf sets m (suc k) = pick (has m k) (union (unionOf sets m k) (getD sets k 0)) (unionOf sets m k)
-
--- a slot is in use where its set is not empty
-abbrev pub inUse : List ℕ → ℕ → Bool
-inUse sets k = not (eqb (getD sets k 0) 0)
-
-unfoldable pub usedIn : List ℕ → ℕ
-usedIn sets = setOf 33 (inUse sets)
 
 abbrev pub setsMade : ℕ → ℕ → Sets
 setsMade users permissions = record { users = users; permissions = permissions }

@@ -2,8 +2,10 @@
 ghost use mathlib.Core.Path.{_≡_};
 ghost use Prim.Native.Nat.{_+_, _*_, _<_};
 ghost use lib.ListN.{length};
+ghost use Rattle.unions.specs.Union.{usedIn};
+ghost use Rattle.unions.specs.Tables.{Tabled};
 ghost use Rattle.trees.specs.Tree.{Within, Indexed};
-ghost use Rattle.marking.specs.Role.{usedIn, unionOf, setsMade, keptWith, Gathered};
+ghost use Rattle.marking.specs.Role.{setsMade, keptWith, Gathered};
 ghost use Rattle.marking.specs.Mark.{grown, Marked};
 
 // A role: its number, the slot of the hours in which it is enabled, and its users and permissions by slot. Slot k is hours record k, 32 is always.
@@ -19,55 +21,22 @@ pub struct Sets {
     pub permissions: u64,
 }
 
-// The slots whose sets are not empty.
-pub fn used_in(sets: &[u64; 33]) -> u64
-    ensures { λ r. ⌜ r ≡ usedIn (now (sets .entry)) ⌝ }
-{
-    let mut used = 0;
-    for k in 0..33u32 {
-        let i = k as usize;
-        if sets[i] != 0 {
-            used = bitset::with(used, k);
-        }
-    }
-    used
-}
-
-// The union of those of the 33 sets whose slots are in the mask. Only slots in use are visited, from the lowest on.
-pub fn union_in(sets: &[u64; 33], used: u64, mask: u64) -> u64
-    requires { ⌜ used ≡ usedIn (now sets) ⌝ }
-    ensures { λ r. ⌜ r ≡ unionOf (now (sets .entry)) mask 33 ⌝ }
-{
-    let slots = bitset::both(mask, used);
-    let mut all = 0;
-    let mut next: u32 = 0;
-    while next < 33 {
-        let rest = slots >> next;
-        if rest == 0 {
-            return all;
-        }
-        let k = next + bitset::lowest(rest);
-        if 33 <= k {
-            return all;
-        }
-        let i = k as usize;
-        all = bitset::either(all, sets[i]);
-        next = k + 1;
-    }
-    all
-}
-
 // What a role that is enabled in slot `on` has in a field with this mask; nothing where it is not enabled, or has no user or no permission. That is
 // seen from the slots alone, before any union is made.
 pub fn sets_in(
     on: u32,
     users: &[u64; 33],
     user_slots: u64,
+    user_table: &[u64; 128],
+    user_groups: usize,
     permissions: &[u64; 33],
     permission_slots: u64,
+    permission_table: &[u64; 128],
+    permission_groups: usize,
     mask: u64,
 ) -> Sets
     requires { ⌜ (on < 64) × («user_slots» ≡ usedIn (now users)) × («permission_slots» ≡ usedIn (now permissions)) ⌝ }
+    requires { ⌜ Tabled (now users) (now «user_table») «user_groups» × Tabled (now permissions) (now «permission_table») «permission_groups» ⌝ }
     ensures { λ r. ⌜ Gathered on (now (users .entry)) (now (permissions .entry)) mask r ⌝ }
 {
     if bitset::both(mask, user_slots) == 0 {
@@ -78,8 +47,8 @@ pub fn sets_in(
     }
     if bitset::contains(mask, on) {
         Sets {
-            users: union_in(users, user_slots, mask),
-            permissions: union_in(permissions, permission_slots, mask),
+            users: unions::union_at(users, user_table, user_groups, mask),
+            permissions: unions::union_at(permissions, permission_table, permission_groups, mask),
         }
     } else {
         no_sets()

@@ -3,11 +3,11 @@ use native.Mathlib.Omega.{arith}
 use mathlib.Core.Path.{_≡_, ap, _∙_}
 use Prim.Native.Nat.{_-_, _≤_}
 use Rattle.bitset.specs.Sets.{intersection}
-use Rattle.marking.specs.Role.{unionOf}
-use Rattle.marking.proofs.UnionLaws.{union-none, union-done, union-past, union-turn}
+use Rattle.unions.specs.Union.{unionOf}
+use Rattle.unions.proofs.UnionLaws.{union-none, union-done, union-past, union-turn}
 use borrow.Author.Needs.{needs}
-use Rattle.marking.proofs.union_in.Statement.{statement}
-use Rattle.marking.proofs.union_in.Tie as tie
+use Rattle.unions.proofs.union_in.Statement.{statement}
+use Rattle.unions.proofs.union_in.Tie as tie
 
 abbrev Inv-loop : tie.InvT-loop
 Inv-loop sets used mask slots all₀ next₀ all next = (next ≤ 33) × (all ≡ unionOf sets mask next)

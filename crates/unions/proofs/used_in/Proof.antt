@@ -5,10 +5,10 @@ use mathlib.Core.Logic.{⊎-elim}
 use Prim.Native.Nat.{_-_, _≤_}
 use Rattle.bitset.specs.Sets.{setOf}
 use Rattle.bitset.proofs.SetLaws.{setOf-none, turn-in, turn-out}
-use Rattle.marking.specs.Role.{inUse}
-use Rattle.marking.proofs.UnionLaws.{in-use, not-in-use, used-all}
-use Rattle.marking.proofs.used_in.Statement.{statement}
-use Rattle.marking.proofs.used_in.Tie as tie
+use Rattle.unions.specs.Union.{inUse}
+use Rattle.unions.proofs.UnionLaws.{in-use, not-in-use, used-all}
+use Rattle.unions.proofs.used_in.Statement.{statement}
+use Rattle.unions.proofs.used_in.Tie as tie
 
 abbrev Inv-loop : tie.InvT-loop
 Inv-loop sets used₀ k₀ used k = (k ≤ 33) × (used ≡ setOf k (inUse sets))
