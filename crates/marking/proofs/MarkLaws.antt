@@ -54,11 +54,11 @@ mark-kept {source} {d = d} {pairs′ = pairs′} {k} x o q =
     }
 
 -- the index of as many entries as there are after a mark
-pub index-then : {n k : ℕ} {pairs links links′ : List ℕ} {a b : ℕ} → n ≡ k → links′ ≡ links → Indexed k pairs links a b → Indexed n pairs links′ a b
+pub index-then : {w n k : ℕ} {pairs links links′ : List ℕ} {a b : ℕ} → n ≡ k → links′ ≡ links → Indexed w k pairs links a b → Indexed w n pairs links′ a b
 index-then e q x = rw (e, q) x
 
-pub index-none : {d : ℕ} {pairs links : List ℕ} {a b : ℕ} → Indexed d pairs links a b → Indexed (grown d 0) pairs links a b
-index-none {d} x = index-then (sym (grown-no d 0 (λ z. omega arith))) refl x
+pub index-none : {w d : ℕ} {pairs links : List ℕ} {a b : ℕ} → Indexed w d pairs links a b → Indexed w (grown d 0) pairs links a b
+index-none {d = d} x = index-then (sym (grown-no d 0 (λ z. omega arith))) refl x
 
-pub index-kept : (d k : ℕ) {pairs links : List ℕ} {a b : ℕ} → Indexed (after d k) pairs links a b → Indexed (grown d (k + 1)) pairs links a b
+pub index-kept : (d k : ℕ) {w : ℕ} {pairs links : List ℕ} {a b : ℕ} → Indexed w (after d k) pairs links a b → Indexed w (grown d (k + 1)) pairs links a b
 index-kept d k x = index-then (grown-after d k) refl x

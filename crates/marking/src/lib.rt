@@ -1,6 +1,6 @@
 // What a role has in one field, and the mark of the field.
 ghost use mathlib.Core.Path.{_≡_};
-ghost use Prim.Native.Nat.{_+_, _*_, _<_};
+ghost use Prim.Native.Nat.{_+_, _*_, _<_, _≤_};
 ghost use lib.ListN.{length};
 ghost use Rattle.unions.specs.Union.{usedIn};
 ghost use Rattle.unions.specs.Tables.{Tabled};
@@ -70,14 +70,15 @@ pub fn mark_field(
     x: Sets,
     pairs: &mut [u64],
     links: &mut [u16],
+    w: usize,
     a: u64,
     b: u64,
     d: usize,
 ) -> usize
-    requires { ⌜ (2 * d + 1 < length (now pairs)) × (512 + 2 * d + 1 < length (now links)) × (d < 33345) ⌝ }
-    requires { ⌜ Indexed d (now pairs) (now links) a b × Within (x .users) a × Within (x .permissions) b ⌝ }
+    requires { ⌜ (2 * d + 1 < length (now pairs)) × (w + 2 * d + 1 < length (now links)) × (d < 33345) × (0 < w) × (w ≤ 16384) ⌝ }
+    requires { ⌜ Indexed w d (now pairs) (now links) a b × Within (x .users) a × Within (x .permissions) b ⌝ }
     ensures { λ m. ⌜ Marked source (keptWith source x) d (now (pairs .entry)) (now (pairs .exit)) m
-        × Indexed (grown d m) (now (pairs .exit)) (now (links .exit)) a b ⌝ }
+        × Indexed w (grown d m) (now (pairs .exit)) (now (links .exit)) a b ⌝ }
 {
     let u = x.users;
     let p = x.permissions;
@@ -87,5 +88,5 @@ pub fn mark_field(
     if p == 0 {
         return 0;
     }
-    index::enter(source, pairs, links, a, b, d, u, p) + 1
+    index::enter(source, pairs, links, w, a, b, d, u, p) + 1
 }
