@@ -190,3 +190,12 @@ within-all m h = record { fits = h; members = λ j e. go j e (ltb j 64) refl }
 
 pub mask-within : (m : ℕ) → m < 2 ^ 64 → Within m 18446744073709551615 × Within 0 0
 mask-within m h = (within-all m h, record { fits = pow-pos 64; members = λ j e. clash (has 0 j) e (has-none j) })
+
+pub after-old : (d k : ℕ) → k < d → d ≡ after d k
+after-old d k h = rw (ne-eqb k d (λ e. omega arith))
+
+pub after-new : (d k : ℕ) → k ≤ d → d ≤ k → d + 1 ≡ after d k
+after-new d k h l = let e : k ≡ d = omega arith in rw (eq-eqb k d e)
+
+pub held-same : {w n k a b : ℕ} {pairs links : List ℕ} → n ≡ k → Indexed w k pairs links a b → Indexed w n pairs links a b
+held-same e x = rw e x

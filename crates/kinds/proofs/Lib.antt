@@ -1,1 +1,4 @@
 pub mod KeyLaws
+pub mod RowLaws
+pub mod MaskLaws
+pub mod EraLaws
