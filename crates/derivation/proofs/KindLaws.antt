@@ -3,6 +3,7 @@
 --     marks-are                               each mark is the place of its derived role among all of them
 --     kinds-length, kinds-most, masks-most    how many kinds and masks, and that each kind names a mask or none
 --     masks-from                              each of the distinct masks is one of the masks, and is not 0
+--     map-at                                  what a function gives for the element at an index
 -- Assumes nothing.
 use Prim.Native.Nat.{ℕ, zero, suc, _+_, _≤_, _<_}
 use mathlib.Core.Path.{_≡_, refl, sym, ap, ap₂, _∙_, subst}
@@ -145,6 +146,7 @@ known-step es none p k = (tt, refl)
 known-step es (some e) none k = (k, refl)
 known-step es (some e) (some d) k = (addAll-keeps same e es (d ∷ []) k, ap suc (place-stays same e es (d ∷ []) k))
 
+-- what a function gives, at an index
 pub map-at : (f : ℕ → ℕ) (l : List ℕ) (i : ℕ) → i < length l → getD (map f l) i 0 ≡ f (getD l i 0)
 map-at f [] i h = absurd (omega arith)
 map-at f (x ∷ l) zero h = refl

@@ -1,7 +1,7 @@
 -- Fields and marks passed over one at a time: cells of an era, then eras.
 -- Assumes nothing.
 use Prim.Native.Nat.{ℕ, zero, suc, _+_, _-_, _*_, _≤_, _<_}
-use mathlib.Core.Path.{_≡_, refl, sym, _∙_, ap, ap₂}
+use mathlib.Core.Path.{_≡_, refl, sym, _∙_, ap, ap₂, subst}
 use mathlib.Core.List.{List, [], _∷_, _++_, map, append-nil}
 use native.Mathlib.Numerals.{add-one}
 use native.Mathlib.Omega.{arith}
@@ -16,9 +16,14 @@ use Rattle.table.specs.Inside.{rowMade}
 use Rattle.derivation.specs.Cuts.{Gap, gapsFrom, gaps}
 use Rattle.derivation.specs.Rewriting.{fieldOf, fieldsOf}
 use Rattle.derivation.specs.Roles.{marked, rowsMarked}
-use Rattle.derivation.proofs.TableCuts.{gaps-length}
-use Rattle.writing.specs.Parts.{cellOf, eraRows, roleRows}
-use Rattle.writing.proofs.WriteLaws.{Writing, row-long, writing-turn, writing-room}
+use Rattle.derivation.specs.Joined.{joinRows}
+use Rattle.derivation.specs.Kinds.{byKind}
+use Rattle.derivation.proofs.KindLaws.{map-at}
+use Rattle.derivation.proofs.RunLaws.{run-on, run-ends, run-last, cells-later, era-by-era}
+use Rattle.derivation.proofs.TableCuts.{gaps-length, rising-later}
+use Rattle.grid.specs.Grid.{Cuts}
+use Rattle.writing.specs.Parts.{fieldMarks, HaveMarks, cellOf, eraRows, roleRows}
+use Rattle.writing.proofs.WriteLaws.{Writing, row-long, writing-start, writing-turn, writing-end, writing-room}
 
 abbrev pub gap : ℕ → ℕ → Gap
 gap a b = record { low = a; high = b }
@@ -51,7 +56,7 @@ gaps-count n l h = gaps-length (take (n + 1) l) ∙ omega (arith, length-take-le
 
 -- ---- rows
 
-marked-front : (base : ℕ) (f : Window) (m : ℕ) (ws : List Row) → marked base f m ws ≡ marked base f m [] ++ ws
+pub marked-front : (base : ℕ) (f : Window) (m : ℕ) (ws : List Row) → marked base f m ws ≡ marked base f m [] ++ ws
 marked-front base f zero ws = refl
 marked-front base f (suc k) ws = refl
 
@@ -70,50 +75,83 @@ module _ (base : ℕ) (f : Window) (out : List ℕ) (at : ℕ) where
   unfolding joined
   row-written m out′ h e = rw (one-row m h) (e ∙ ap (sets out at) (sym (append-nil (rowBytes (rowMade (base + (m - 1)) f)))), omega arith)
 
--- the rows of an era from the cell c on
-abbrev pub eraLeft : ℕ → ℕ → ℕ → ℕ → ℕ → List ℕ → List ℕ → List Row
-eraLeft base b e c nc cells ms = rowsMarked base (map (fieldOf (gap b e)) (gapsLeft c nc cells)) (drop c (take nc ms))
+-- the mark of a field is that of its kind
+pub mark-is : (marks kinds : List ℕ) (i : ℕ) → i < length kinds → getD (fieldMarks marks kinds) i 0 ≡ getD marks (getD kinds i 0) 0
+unfolding fieldMarks
+mark-is marks kinds i h = map-at (byKind marks) kinds i h
 
-pub era-start : (base b e nc : ℕ) (cells marks : List ℕ) (first : ℕ) → nc < length cells
-    → eraLeft base b e 0 nc cells (drop first marks) ≡ eraRows base b e cells nc marks first
-unfolding eraRows
-era-start base b e nc cells marks first h = ap (λ (g : List Gap). rowsMarked base (map (fieldOf (gap b e)) g) (take nc (drop first marks))) (sym (gaps-start nc cells h))
+pub marks-long : (marks kinds : List ℕ) → length (fieldMarks marks kinds) ≡ length kinds
+unfolding fieldMarks
+marks-long marks kinds = length-map kinds (byKind marks)
 
-era-step : (base b e c nc : ℕ) (cells ms : List ℕ) → c < nc → nc < length cells → nc ≤ length ms
-    → eraLeft base b e c nc cells ms
-    ≡ marked base (fieldOf (gap b e) (gap (getD cells c 0) (getD cells (c + 1) 0))) (getD ms c 0) [] ++ eraLeft base b e (c + 1) nc cells ms
-unfolding rowsMarked
-era-step base b e c nc cells ms h hc hm =
-    ap₂ (λ (g : List Gap) (l : List ℕ). rowsMarked base (map (fieldOf (gap b e)) g) l) (gaps-turn c nc cells h hc)
-    (slice-cons c nc ms 0 h hm ∙ ap (λ (k : ℕ). getD ms c 0 ∷ drop k (take nc ms)) (sym (add-one c)))
-    ∙ marked-front base (fieldOf (gap b e) (gap (getD cells c 0) (getD cells (c + 1) 0))) (getD ms c 0) (eraLeft base b e (c + 1) nc cells ms)
+pub marks-room : (first nc : ℕ) (kinds marks : List ℕ) → HaveMarks (first + nc) kinds marks → first + nc ≤ length (fieldMarks marks kinds)
+marks-room first nc kinds marks h = omega (arith, h .long, marks-long marks kinds)
 
-pub era-turn : (base b e c nc : ℕ) (cells marks : List ℕ) (first : ℕ) → c < nc → nc < length cells → first + nc ≤ length marks
-    → eraLeft base b e c nc cells (drop first marks)
-    ≡ marked base (cellOf b e (getD cells c 0) (getD cells (c + 1) 0)) (getD marks (first + c) 0) [] ++ eraLeft base b e (c + 1) nc cells (drop first marks)
-era-turn base b e c nc cells marks first h hc hm =
-    era-step base b e c nc cells (drop first marks) h hc (omega (arith, length-drop first marks))
-    ∙ ap (λ (m : ℕ). marked base (cellOf b e (getD cells c 0) (getD cells (c + 1) 0)) m [] ++ eraLeft base b e (c + 1) nc cells (drop first marks))
-    (getD-drop first marks c 0)
+pub fewer-marks : (k n : ℕ) (kinds marks : List ℕ) → k ≤ n → HaveMarks n kinds marks → HaveMarks k kinds marks
+fewer-marks k n kinds marks l h = record { long = omega (arith, h .long); below = λ i b. h .below i (omega arith) }
 
-pub era-none : (base b e c nc : ℕ) (cells ms : List ℕ) → c ≡ nc → nc < length cells → eraLeft base b e c nc cells ms ≡ []
-unfolding rowsMarked
-era-none base b e c nc cells ms q h = ap (λ (g : List Gap). rowsMarked base (map (fieldOf (gap b e)) g) (drop c (take nc ms))) (gaps-none c nc cells h q)
+-- ---- the cells of an era
+
+-- the marks of an era from the cell c on
+abbrev pub marksLeft : ℕ → ℕ → ℕ → List ℕ → List ℕ
+marksLeft c nc first ks = drop c (take nc (drop first ks))
+
+pub marks-turn : (c nc first : ℕ) (ks : List ℕ) → c < nc → first + nc ≤ length ks
+    → marksLeft c nc first ks ≡ getD ks (first + c) 0 ∷ marksLeft (c + 1) nc first ks
+marks-turn c nc first ks h hm =
+    slice-cons c nc (drop first ks) 0 h (omega (arith, length-drop first ks))
+    ∙ ap₂ (λ (m k : ℕ). m ∷ drop k (take nc (drop first ks))) (getD-drop first ks c 0) (sym (add-one c))
+
+pub marks-none : (c nc first : ℕ) (ks : List ℕ) → c ≡ nc → marksLeft c nc first ks ≡ []
+marks-none c nc first ks e = ap (λ (k : ℕ). marksLeft k nc first ks) e ∙ slice-empty nc (drop first ks)
+
+module _ (base b e nc : ℕ) (cells ks : List ℕ) (first : ℕ) where
+  -- unjoined, from the cell c on
+  abbrev pub cellsLeft : ℕ → List Row
+  cellsLeft c = rowsMarked base (map (fieldOf (gap b e)) (gapsLeft c nc cells)) (marksLeft c nc first ks)
+
+  -- the rows of an era that are left at the cell c, in a run with mark m that begins at the phase `low`
+  abbrev pub eraLeft : ℕ → ℕ → ℕ → List Row
+  eraLeft low m c = joinRows (marked base (cellOf b e low (getD cells c 0)) m (cellsLeft c))
+
+  module _ (k : Cuts (take (nc + 1) cells) cells nc 65535) where
+    era-start : (low : ℕ) → eraLeft low 0 0 ≡ eraRows base b e cells nc ks first
+    unfolding eraRows
+    era-start low = ap (λ (g : List Gap). joinRows (rowsMarked base (map (fieldOf (gap b e)) g) (take nc (drop first ks)))) (sym (gaps-start nc cells (k .long)))
+
+    -- the run ends with the last cell
+    era-end : (low m c : ℕ) → c ≡ nc → eraLeft low m c ≡ marked base (cellOf b e low (getD cells nc 0)) m [] ++ []
+    unfolding rowsMarked
+    era-end low m c q =
+        ap (λ (ws : List Row). joinRows (marked base (cellOf b e low (getD cells c 0)) m ws))
+        (ap (λ (g : List Gap). rowsMarked base (map (fieldOf (gap b e)) g) (marksLeft c nc first ks)) (gaps-none c nc cells (k .long) q))
+        ∙ run-last base (cellOf b e low (getD cells c 0)) m
+        ∙ ap (λ (j : ℕ). marked base (cellOf b e low (getD cells j 0)) m []) q
+        ∙ sym (append-nil (marked base (cellOf b e low (getD cells nc 0)) m []))
+
+    module _ (low m c : ℕ) (h : c < nc) (hm : first + nc ≤ length ks) (hl : low ≤ getD cells c 0) where
+      cells-turn : cellsLeft c ≡ marked base (cellOf b e (getD cells c 0) (getD cells (c + 1) 0)) (getD ks (first + c) 0) (cellsLeft (c + 1))
+      unfolding rowsMarked
+      cells-turn =
+          ap₂ (λ (g : List Gap) (l : List ℕ). rowsMarked base (map (fieldOf (gap b e)) g) l) (gaps-turn c nc cells h (k .long)) (marks-turn c nc first ks h hm)
+
+      -- a cell with the mark of the run
+      era-on : getD ks (first + c) 0 ≡ m → eraLeft low m c ≡ eraLeft low m (c + 1)
+      era-on q =
+          ap (λ (ws : List Row). joinRows (marked base (cellOf b e low (getD cells c 0)) m ws))
+          (cells-turn ∙ ap (λ (n : ℕ). marked base (cellOf b e (getD cells c 0) (getD cells (c + 1) 0)) n (cellsLeft (c + 1))) q)
+          ∙ run-on base (gap b e) low (getD cells c 0) (getD cells (c + 1) 0) m (cellsLeft (c + 1)) hl (omega (arith, k .rise c h))
+
+      -- a cell with another: the row of the run, and a run that begins with the cell
+      era-ends : (getD ks (first + c) 0 ≡ m → ⊥)
+          → eraLeft low m c ≡ marked base (cellOf b e low (getD cells c 0)) m [] ++ eraLeft (getD cells c 0) (getD ks (first + c) 0) (c + 1)
+      era-ends q =
+          ap (λ (ws : List Row). joinRows (marked base (cellOf b e low (getD cells c 0)) m ws)) cells-turn
+          ∙ run-ends base (gap b e) low (getD cells c 0) (getD cells (c + 1) 0) m (getD ks (first + c) 0) (cellsLeft (c + 1)) (λ z. q (sym z)) hl (k .rise c h)
+          (cells-later base (gap b e) (getD cells c 0) (gapsLeft (c + 1) nc cells) (marksLeft (c + 1) nc first ks) (rising-later c nc cells h (k .long) (k .rise)))
+          ∙ marked-front base (cellOf b e low (getD cells c 0)) m (eraLeft (getD cells c 0) (getD ks (first + c) 0) (c + 1))
 
 -- ---- eras
-
-marked-no-marks : (base : ℕ) (fs : List Window) → rowsMarked base fs [] ≡ []
-unfolding rowsMarked
-marked-no-marks base [] = refl
-marked-no-marks base (f ∷ fs) = refl
-
-marked-append : (base : ℕ) (xs ys : List Window) (ms : List ℕ)
-    → rowsMarked base (xs ++ ys) ms ≡ rowsMarked base xs (take (length xs) ms) ++ rowsMarked base ys (drop (length xs) ms)
-unfolding rowsMarked
-marked-append base [] ys ms = refl
-marked-append base (x ∷ xs) ys [] = sym (marked-no-marks base ys)
-marked-append base (x ∷ xs) ys (zero ∷ ms) = marked-append base xs ys ms
-marked-append base (x ∷ xs) ys (suc k ∷ ms) = ap (λ (l : List Row). record { derived = base + k; window = x } ∷ l) (marked-append base xs ys ms)
 
 take-drop-take : (k i n : ℕ) (l : List ℕ) → i + k ≤ n → take k (drop i (take n l)) ≡ take k (drop i l)
 take-drop-take k zero n l h = take-take k n l (omega arith)
@@ -123,35 +161,35 @@ take-drop-take k (suc i) (suc n) (x ∷ l) h = take-drop-take k i n l (omega ari
 
 -- the rows of a role from the era e on, whose first mark is at `first`
 abbrev pub roleLeft : ℕ → ℕ → ℕ → ℕ → ℕ → ℕ → List ℕ → List ℕ → List ℕ → List Row
-roleLeft base e ne nc first n eras cells marks = rowsMarked base (fieldsOf (gapsLeft e ne eras) (gaps (take (nc + 1) cells))) (drop first (take n marks))
+roleLeft base e ne nc first n eras cells ks = joinRows (rowsMarked base (fieldsOf (gapsLeft e ne eras) (gaps (take (nc + 1) cells))) (drop first (take n ks)))
 
-pub role-start : (base ne nc : ℕ) (eras cells marks : List ℕ) → ne < length eras
-    → roleLeft base 0 ne nc 0 (ne * nc) eras cells marks ≡ roleRows base eras ne cells nc marks
+pub role-start : (base ne nc : ℕ) (eras cells ks : List ℕ) → ne < length eras
+    → roleLeft base 0 ne nc 0 (ne * nc) eras cells ks ≡ roleRows base eras ne cells nc ks
 unfolding roleRows
-role-start base ne nc eras cells marks h =
-    ap (λ (g : List Gap). rowsMarked base (fieldsOf g (gaps (take (nc + 1) cells))) (take (ne * nc) marks)) (sym (gaps-start ne eras h))
+role-start base ne nc eras cells ks h =
+    ap (λ (g : List Gap). joinRows (rowsMarked base (fieldsOf g (gaps (take (nc + 1) cells))) (take (ne * nc) ks))) (sym (gaps-start ne eras h))
 
-pub role-turn : (base e ne nc first n : ℕ) (eras cells marks : List ℕ) → e < ne → ne < length eras → nc < length cells → first + nc ≤ n
-    → roleLeft base e ne nc first n eras cells marks
-    ≡ eraRows base (getD eras e 0) (getD eras (e + 1) 0) cells nc marks first
-    ++ roleLeft base (e + 1) ne nc (first + nc) n eras cells marks
-unfolding fieldsOf eraRows
-role-turn base e ne nc first n eras cells marks h he hc hf =
-    let g = gap (getD eras e 0) (getD eras (e + 1) 0) in
-    let cs = gaps (take (nc + 1) cells) in
-    let here = map (fieldOf g) cs in
-    let later = fieldsOf (gapsLeft (e + 1) ne eras) cs in
-    let ms = drop first (take n marks) in
-    let lc : length here ≡ nc = length-map cs (fieldOf g) ∙ gaps-count nc cells hc in
-    ap (λ (x : List Gap). rowsMarked base (fieldsOf x cs) ms) (gaps-turn e ne eras h he)
-    ∙ marked-append base here later ms
-    ∙ ap₂ (λ (x y : List ℕ). rowsMarked base here x ++ rowsMarked base later y)
-    (ap (λ (k : ℕ). take k ms) lc ∙ take-drop-take nc first n marks hf) (ap (λ (k : ℕ). drop k ms) lc ∙ drop-drop nc first (take n marks))
+module _ (base e ne nc first n top : ℕ) (eras cells ks : List ℕ) (k : Cuts (take (ne + 1) eras) eras ne top) where
+  pub role-turn : e < ne → nc < length cells → first + nc ≤ n
+      → roleLeft base e ne nc first n eras cells ks
+      ≡ eraRows base (getD eras e 0) (getD eras (e + 1) 0) cells nc ks first ++ roleLeft base (e + 1) ne nc (first + nc) n eras cells ks
+  unfolding eraRows
+  role-turn h hc hf =
+      let g = gap (getD eras e 0) (getD eras (e + 1) 0) in
+      let cs = gaps (take (nc + 1) cells) in
+      let here = map (fieldOf g) cs in
+      let later = fieldsOf (gapsLeft (e + 1) ne eras) cs in
+      let ms = drop first (take n ks) in
+      let lc : length cs ≡ nc = gaps-count nc cells hc in
+      ap (λ (x : List Gap). joinRows (rowsMarked base (fieldsOf x cs) ms)) (gaps-turn e ne eras h (k .long))
+      ∙ era-by-era base g (gapsLeft (e + 1) ne eras) cs ms (rising-later e ne eras h (k .long) (k .rise))
+      ∙ ap₂ (λ (x y : List ℕ). joinRows (rowsMarked base here x) ++ joinRows (rowsMarked base later y))
+      (ap (λ (j : ℕ). take j ms) lc ∙ take-drop-take nc first n ks hf) (ap (λ (j : ℕ). drop j ms) lc ∙ drop-drop nc first (take n ks))
 
-pub role-none : (base e ne nc first n : ℕ) (eras cells marks : List ℕ) → e ≡ ne → ne < length eras → roleLeft base e ne nc first n eras cells marks ≡ []
-unfolding fieldsOf rowsMarked
-role-none base e ne nc first n eras cells marks q h =
-    ap (λ (g : List Gap). rowsMarked base (fieldsOf g (gaps (take (nc + 1) cells))) (drop first (take n marks))) (gaps-none e ne eras h q)
+  pub role-none : e ≡ ne → roleLeft base e ne nc first n eras cells ks ≡ []
+  unfolding fieldsOf rowsMarked joinRows
+  role-none q =
+      ap (λ (g : List Gap). joinRows (rowsMarked base (fieldsOf g (gaps (take (nc + 1) cells))) (drop first (take n ks)))) (gaps-none e ne eras (k .long) q)
 
 pub room : (e ne nc first : ℕ) → e < ne → first ≡ e * nc → first + nc ≤ ne * nc
 room e ne nc first h q = omega (arith, mul-le-mul-right nc h)
@@ -161,33 +199,82 @@ next-first e nc first q = omega arith
 
 -- ---- one turn of each loop
 
-module _ {whole : List Row} {at : ℕ} {out₀ : List ℕ} {p : ℕ} {out : List ℕ} (base b e c nc : ℕ) (cells marks : List ℕ) (first : ℕ)
-    (h : c < nc) (hc : nc < length cells) (hm : first + nc ≤ length marks)
-    (w : Writing rowBytes 16 whole at out₀ (eraLeft base b e c nc cells (drop first marks)) p out) where
-  row : List Row
-  row = marked base (cellOf b e (getD cells c 0) (getD cells (c + 1) 0)) (getD marks (first + c) 0) []
+-- in an era, at the cell c: a run from the phase `low` on with mark m, of which no row is written yet
+pub record InRun (base b e nc : ℕ) (cells ks : List ℕ) (first : ℕ) (whole : List Row) (at : ℕ) (out₀ : List ℕ) (c low m p : ℕ) (out : List ℕ) : Type 0 where
+  pub up-to : c ≤ nc
+  pub from : low ≤ getD cells c 0
+  pub left : Writing rowBytes 16 whole at out₀ (eraLeft base b e nc cells ks first low m c) p out
 
-  pub cell-room : at + 16 * length whole ≤ length out₀ → p + 16 * length (marked base (cellOf b e (getD cells c 0) (getD cells (c + 1) 0)) (getD marks (first + c) 0) []) ≤ length out
-  unfolding row
-  cell-room l = writing-room w row (eraLeft base b e (c + 1) nc cells (drop first marks)) (era-turn base b e c nc cells marks first h hc hm) l
+module _ (base b e nc : ℕ) (cells ks : List ℕ) (first : ℕ) (k : Cuts (take (nc + 1) cells) cells nc 65535) where
+  pub run-start : (at : ℕ) (out : List ℕ) → InRun base b e nc cells ks first (eraRows base b e cells nc ks first) at out 0 (getD cells 0 0) 0 at out
+  run-start at out =
+      record {
+        up-to = omega arith;
+        from = omega arith;
+        left = writing-start (eraRows base b e cells nc ks first) at out _ at (era-start base b e nc cells ks first k (getD cells 0 0)) refl;
+      }
 
-  pub cell-written : (p′ : ℕ) (out′ : List ℕ) → out′ ≡ sets out p (joined rowBytes (marked base (cellOf b e (getD cells c 0) (getD cells (c + 1) 0)) (getD marks (first + c) 0) []))
-      → p′ ≡ p + 16 * length (marked base (cellOf b e (getD cells c 0) (getD cells (c + 1) 0)) (getD marks (first + c) 0) [])
-      → Writing rowBytes 16 whole at out₀ (eraLeft base b e (c + 1) nc cells (drop first marks)) p′ out′
-  unfolding row
-  cell-written p′ out′ q r = writing-turn w row-long row (eraLeft base b e (c + 1) nc cells (drop first marks)) p′ out′ (era-turn base b e c nc cells marks first h hc hm) q r
+  module _ {whole : List Row} {at : ℕ} {out₀ : List ℕ} {c low m p : ℕ} {out : List ℕ} (w : InRun base b e nc cells ks first whole at out₀ c low m p out) where
+    module _ (h : c < nc) (hm : first + nc ≤ length ks) where
+      -- the next cell has the mark of the run
+      pub run-kept : getD ks (first + c) 0 ≡ m → (low′ m′ p′ : ℕ) (out′ : List ℕ) → out′ ≡ out → p′ ≡ p → m′ ≡ m → low′ ≡ low
+          → InRun base b e nc cells ks first whole at out₀ (c + 1) low′ m′ p′ out′
+      run-kept q low′ m′ p′ out′ eo ep em el =
+          rw (eo, ep, em, el)
+          (record {
+            up-to = omega arith;
+            from = omega (arith, w .from, k .rise c h);
+            left = subst (λ (l : List Row). Writing rowBytes 16 whole at out₀ l p out) (era-on base b e nc cells ks first k low m c h hm (w .from) q) (w .left);
+          })
 
-module _ {whole : List Row} {at : ℕ} {out₀ : List ℕ} {p : ℕ} {out : List ℕ} (base e ne nc first n : ℕ) (eras cells marks : List ℕ)
-    (h : e < ne) (he : ne < length eras) (hc : nc < length cells) (hf : first + nc ≤ n)
-    (w : Writing rowBytes 16 whole at out₀ (roleLeft base e ne nc first n eras cells marks) p out) where
-  pub era-room : at + 16 * length whole ≤ length out₀ → p + 16 * length (eraRows base (getD eras e 0) (getD eras (e + 1) 0) cells nc marks first) ≤ length out
+      -- it has another: the row of the run is written
+      module _ (q : getD ks (first + c) 0 ≡ m → ⊥) where
+        pub run-room : at + 16 * length whole ≤ length out₀ → p + 16 * length (marked base (cellOf b e low (getD cells c 0)) m []) ≤ length out
+        run-room l =
+            writing-room (w .left) (marked base (cellOf b e low (getD cells c 0)) m [])
+            (eraLeft base b e nc cells ks first (getD cells c 0) (getD ks (first + c) 0) (c + 1)) (era-ends base b e nc cells ks first k low m c h hm (w .from) q) l
+
+        pub run-written : (low′ m′ p′ : ℕ) (out′ : List ℕ) → out′ ≡ sets out p (joined rowBytes (marked base (cellOf b e low (getD cells c 0)) m []))
+            → p′ ≡ p + 16 * length (marked base (cellOf b e low (getD cells c 0)) m []) → m′ ≡ getD ks (first + c) 0 → low′ ≡ getD cells c 0
+            → InRun base b e nc cells ks first whole at out₀ (c + 1) low′ m′ p′ out′
+        run-written low′ m′ p′ out′ eo ep em el =
+            rw (em, el)
+            (record {
+              up-to = omega arith;
+              from = omega (arith, k .rise c h);
+              left =
+                  writing-turn (w .left) row-long (marked base (cellOf b e low (getD cells c 0)) m [])
+                  (eraLeft base b e nc cells ks first (getD cells c 0) (getD ks (first + c) 0) (c + 1)) p′ out′
+                  (era-ends base b e nc cells ks first k low m c h hm (w .from) q) eo ep;
+            })
+
+    -- no cell is left
+    module _ (h : c ≡ nc) where
+      pub last-room : at + 16 * length whole ≤ length out₀ → p + 16 * length (marked base (cellOf b e low (getD cells nc 0)) m []) ≤ length out
+      last-room l = writing-room (w .left) (marked base (cellOf b e low (getD cells nc 0)) m []) [] (era-end base b e nc cells ks first k low m c h) l
+
+      pub last-from : low ≤ getD cells nc 0
+      last-from = subst (λ (j : ℕ). low ≤ getD cells j 0) h (w .from)
+
+      pub last-written : (p′ : ℕ) (out′ : List ℕ) → out′ ≡ sets out p (joined rowBytes (marked base (cellOf b e low (getD cells nc 0)) m []))
+          → p′ ≡ p + 16 * length (marked base (cellOf b e low (getD cells nc 0)) m [])
+          → (out′ ≡ sets out₀ at (joined rowBytes whole)) × (p′ ≡ at + 16 * length whole)
+      last-written p′ out′ eo ep =
+          writing-end
+          (writing-turn (w .left) row-long (marked base (cellOf b e low (getD cells nc 0)) m []) [] p′ out′ (era-end base b e nc cells ks first k low m c h) eo ep)
+          refl
+
+module _ {whole : List Row} {at : ℕ} {out₀ : List ℕ} {p : ℕ} {out : List ℕ} (base e ne nc first n top : ℕ) (eras cells ks : List ℕ)
+    (k : Cuts (take (ne + 1) eras) eras ne top) (h : e < ne) (hc : nc < length cells) (hf : first + nc ≤ n)
+    (w : Writing rowBytes 16 whole at out₀ (roleLeft base e ne nc first n eras cells ks) p out) where
+  pub era-room : at + 16 * length whole ≤ length out₀ → p + 16 * length (eraRows base (getD eras e 0) (getD eras (e + 1) 0) cells nc ks first) ≤ length out
   era-room l =
-      writing-room w (eraRows base (getD eras e 0) (getD eras (e + 1) 0) cells nc marks first) (roleLeft base (e + 1) ne nc (first + nc) n eras cells marks)
-      (role-turn base e ne nc first n eras cells marks h he hc hf) l
+      writing-room w (eraRows base (getD eras e 0) (getD eras (e + 1) 0) cells nc ks first) (roleLeft base (e + 1) ne nc (first + nc) n eras cells ks)
+      (role-turn base e ne nc first n top eras cells ks k h hc hf) l
 
-  pub era-written : (p′ : ℕ) (out′ : List ℕ) → out′ ≡ sets out p (joined rowBytes (eraRows base (getD eras e 0) (getD eras (e + 1) 0) cells nc marks first))
-      → p′ ≡ p + 16 * length (eraRows base (getD eras e 0) (getD eras (e + 1) 0) cells nc marks first)
-      → Writing rowBytes 16 whole at out₀ (roleLeft base (e + 1) ne nc (first + nc) n eras cells marks) p′ out′
+  pub era-written : (p′ : ℕ) (out′ : List ℕ) → out′ ≡ sets out p (joined rowBytes (eraRows base (getD eras e 0) (getD eras (e + 1) 0) cells nc ks first))
+      → p′ ≡ p + 16 * length (eraRows base (getD eras e 0) (getD eras (e + 1) 0) cells nc ks first)
+      → Writing rowBytes 16 whole at out₀ (roleLeft base (e + 1) ne nc (first + nc) n eras cells ks) p′ out′
   era-written p′ out′ q r =
-      writing-turn w row-long (eraRows base (getD eras e 0) (getD eras (e + 1) 0) cells nc marks first) (roleLeft base (e + 1) ne nc (first + nc) n eras cells marks) p′ out′
-      (role-turn base e ne nc first n eras cells marks h he hc hf) q r
+      writing-turn w row-long (eraRows base (getD eras e 0) (getD eras (e + 1) 0) cells nc ks first) (roleLeft base (e + 1) ne nc (first + nc) n eras cells ks) p′ out′
+      (role-turn base e ne nc first n top eras cells ks k h hc hf) q r

@@ -1,2 +1,3 @@
 pub mod WriteLaws
 pub mod FieldLaws
+pub mod CountLaws

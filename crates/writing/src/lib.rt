@@ -1,15 +1,16 @@
-// A role's entries and rows, written as bytes of a table.
+// A role's entries and rows, written as bytes of a table. A field has the mark of its kind: 0, or one more than the place of its derived role.
 ghost use mathlib.Core.Path.{_≡_};
 ghost use Prim.Native.Nat.{_+_, _*_, _<_, _≤_};
 ghost use mathlib.Core.List.{[]};
-ghost use lib.ListN.{length, take};
+ghost use lib.ListN.{length, getD, take, drop};
 ghost use lib.Seq.{sets};
 ghost use Rattle.ground.specs.Sequence.{joined};
+ghost use Rattle.minutes.specs.Minutes.{E};
 ghost use Rattle.table.specs.TableBytes.{entryBytes, rowBytes};
 ghost use Rattle.derivation.specs.Roles.{marked};
 ghost use Rattle.index.specs.Entries.{entriesTo};
 ghost use Rattle.grid.specs.Grid.{Cuts};
-ghost use Rattle.writing.specs.Parts.{cellOf, eraRows, roleRows};
+ghost use Rattle.writing.specs.Parts.{fieldMarks, HaveMarks, cellOf, eraRows, roleRows, startsRow, runsIn, CountedRows};
 
 // Writes the first d pairs of sets as entries.
 pub fn write_entries(out: &mut [u8], at: usize, source: u8, pairs: &[u64], d: usize)
@@ -23,7 +24,7 @@ pub fn write_entries(out: &mut [u8], at: usize, source: u8, pairs: &[u64], d: us
     }
 }
 
-// Writes the row of a field with mark m, or nothing where m is 0: where the next row goes. Derived roles are counted on from base.
+// Writes the row of a run of cells with mark m, or nothing where m is 0: where the next row goes. Derived roles are counted on from base.
 fn write_marked(
     out: &mut [u8],
     at: usize,
@@ -53,7 +54,65 @@ fn write_marked(
     at + 16
 }
 
-// Writes the rows of an era, whose marks begin at `first`: where the next row goes.
+// The mark of field i.
+fn mark_of(kinds: &[u16], i: usize, marks: &[u16]) -> u16
+    requires { ⌜ (i < length (now kinds)) × (getD (now kinds) i 0 < length (now marks)) ⌝ }
+    ensures { λ r. ⌜ r ≡ getD (fieldMarks (now (marks .entry)) (now (kinds .entry))) i 0 ⌝ }
+{
+    marks[kinds[i] as usize]
+}
+
+// How many rows begin at a field with mark m that comes after one with mark `run`: 1 or none.
+fn starts(m: u16, run: u16) -> usize
+    ensures { λ r. ⌜ r ≡ startsRow m run ⌝ }
+{
+    if m == 0 {
+        return 0;
+    }
+    if m == run {
+        return 0;
+    }
+    1
+}
+
+// How many rows an era has, whose fields begin at `first`.
+fn count_era(kinds: &[u16], first: usize, nc: usize, marks: &[u16]) -> usize
+    requires { ⌜ HaveMarks (first + nc) (now kinds) (now marks) ⌝ }
+    ensures { λ r. ⌜ r ≡ runsIn 0 (take nc (drop first (fieldMarks (now (marks .entry)) (now (kinds .entry))))) ⌝ }
+{
+    let mut rows = 0;
+    let mut run = 0;
+    let mut c = 0;
+    while c < nc {
+        let m = mark_of(kinds, first + c, marks);
+        rows += starts(m, run);
+        run = m;
+        c += 1;
+    }
+    rows
+}
+
+// How many rows a role has. It stops once it has more than `limit`.
+pub fn count_rows(kinds: &[u16], ne: usize, nc: usize, marks: &[u16], limit: usize) -> usize
+    requires { ⌜ HaveMarks (ne * nc) (now kinds) (now marks) ⌝ }
+    ensures { λ r. ⌜ CountedRows limit ne nc (fieldMarks (now (marks .entry)) (now (kinds .entry))) r ⌝ }
+{
+    let mut rows = 0;
+    let mut first = 0;
+    let mut e = 0;
+    while e < ne {
+        if limit < rows {
+            return rows;
+        }
+        rows += count_era(kinds, first, nc, marks);
+        first += nc;
+        e += 1;
+    }
+    rows
+}
+
+// Writes the rows of an era, whose fields begin at `first`: where the next row goes. A run of cells with one mark, which begins at the phase `low`, is
+// one row.
 fn write_era(
     out: &mut [u8],
     at: usize,
@@ -62,30 +121,29 @@ fn write_era(
     end: u32,
     cells: &[u32],
     nc: usize,
-    marks: &[u16],
+    kinds: &[u16],
     first: usize,
+    marks: &[u16],
 ) -> usize
-    requires { ⌜ (at + 16 * length (eraRows base begin end (now cells) nc (now marks) first) ≤ length (now out)) × (base ≤ 1067040) ⌝ }
-    requires { ⌜ (first + nc ≤ length (now marks)) × Cuts (take (nc + 1) (now cells)) (now cells) nc 65535 ⌝ }
-    ensures { λ r. ⌜ (now (out .exit) ≡ sets (now (out .entry)) at (joined rowBytes (eraRows base begin end (now (cells .entry)) nc (now (marks .entry)) first)))
-        × (r ≡ at + 16 * length (eraRows base begin end (now (cells .entry)) nc (now (marks .entry)) first)) ⌝ }
+    requires { ⌜ (at + 16 * length (eraRows base begin end (now cells) nc (fieldMarks (now marks) (now kinds)) first) ≤ length (now out)) × (base ≤ 1067040) ⌝ }
+    requires { ⌜ HaveMarks (first + nc) (now kinds) (now marks) × Cuts (take (nc + 1) (now cells)) (now cells) nc 65535 ⌝ }
+    ensures { λ r. ⌜ (now (out .exit) ≡ sets (now (out .entry)) at (joined rowBytes (eraRows base begin end (now (cells .entry)) nc (fieldMarks (now (marks .entry)) (now (kinds .entry))) first)))
+        × (r ≡ at + 16 * length (eraRows base begin end (now (cells .entry)) nc (fieldMarks (now (marks .entry)) (now (kinds .entry))) first)) ⌝ }
 {
     let mut p = at;
+    let mut run = 0;
+    let mut low = cells[0];
     let mut c = 0;
     while c < nc {
-        p = write_marked(
-            out,
-            p,
-            base,
-            marks[first + c],
-            begin,
-            end,
-            cells[c],
-            cells[c + 1],
-        );
+        let m = mark_of(kinds, first + c, marks);
+        if m != run {
+            p = write_marked(out, p, base, run, begin, end, low, cells[c]);
+            run = m;
+            low = cells[c];
+        }
         c += 1;
     }
-    p
+    write_marked(out, p, base, run, begin, end, low, cells[nc])
 }
 
 // Writes the rows of a role: where the next row goes.
@@ -97,18 +155,30 @@ pub fn write_rows(
     ne: usize,
     cells: &[u32],
     nc: usize,
+    kinds: &[u16],
     marks: &[u16],
 ) -> usize
-    requires { ⌜ (at + 16 * length (roleRows base (now eras) ne (now cells) nc (now marks)) ≤ length (now out)) × (base ≤ 1067040) ⌝ }
-    requires { ⌜ (ne * nc ≤ length (now marks)) × (ne < length (now eras)) × Cuts (take (nc + 1) (now cells)) (now cells) nc 65535 ⌝ }
-    ensures { λ r. ⌜ (now (out .exit) ≡ sets (now (out .entry)) at (joined rowBytes (roleRows base (now (eras .entry)) ne (now (cells .entry)) nc (now (marks .entry)))))
-        × (r ≡ at + 16 * length (roleRows base (now (eras .entry)) ne (now (cells .entry)) nc (now (marks .entry)))) ⌝ }
+    requires { ⌜ (at + 16 * length (roleRows base (now eras) ne (now cells) nc (fieldMarks (now marks) (now kinds))) ≤ length (now out)) × (base ≤ 1067040) ⌝ }
+    requires { ⌜ HaveMarks (ne * nc) (now kinds) (now marks) × Cuts (take (ne + 1) (now eras)) (now eras) ne E × Cuts (take (nc + 1) (now cells)) (now cells) nc 65535 ⌝ }
+    ensures { λ r. ⌜ (now (out .exit) ≡ sets (now (out .entry)) at (joined rowBytes (roleRows base (now (eras .entry)) ne (now (cells .entry)) nc (fieldMarks (now (marks .entry)) (now (kinds .entry))))))
+        × (r ≡ at + 16 * length (roleRows base (now (eras .entry)) ne (now (cells .entry)) nc (fieldMarks (now (marks .entry)) (now (kinds .entry))))) ⌝ }
 {
     let mut p = at;
     let mut first = 0;
     let mut e = 0;
     while e < ne {
-        p = write_era(out, p, base, eras[e], eras[e + 1], cells, nc, marks, first);
+        p = write_era(
+            out,
+            p,
+            base,
+            eras[e],
+            eras[e + 1],
+            cells,
+            nc,
+            kinds,
+            first,
+            marks,
+        );
         first += nc;
         e += 1;
     }
