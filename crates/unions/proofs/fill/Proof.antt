@@ -73,7 +73,7 @@ loop-less c = omega arith
 
 loop-again : tie.Need-loop-again Inv-loop μ-loop
 loop-again c = let a = c .before .before .before .before .before .before .before .before .before .args in let l = c .before .before .before .before .before .before .before .before .loop in
-    let z = filled-more (a .sets .now) (l .table) _ (l .q) (l .inv .2) (l .inv .1) (c .before .before .before .before .before .before .before .loop-test .taken) (c .fill-four .ensures) in
+    let z = filled-more (a .sets .now) (l .table) _ (l .q) (l .inv .2) (l .inv .1) (omega arith) (c .fill-four .ensures) in
     (omega arith, z .0, z .1)
 
 returns-2 : tie.Need-returns-2 Inv-loop μ-loop
