@@ -5,8 +5,8 @@
 --     union-split, union-group      the sets from k on apart; four of them by four bits of the mask
 --     union-rest                    where they have no members
 -- Assumes nothing.
-use Prim.Native.Nat.{ℕ, zero, suc, _+_, _-_, _*_, _/_, _%_, _^_, _≤_, _<_}
-use mathlib.Core.Path.{_≡_, refl, sym, _∙_, ap, ap₂, subst}
+use Prim.Native.Nat.{ℕ, zero, suc, _+_, _-_, _/_, _%_, _^_, _≤_, _<_}
+use mathlib.Core.Path.{_≡_, refl, sym, _∙_, ap, ap₂}
 use mathlib.Core.Bool.{Bool, true, false, _||_, or-assoc, or-comm}
 use mathlib.Core.List.{List}
 use native.Mathlib.Nat.{add-zero, add-suc}
@@ -16,8 +16,8 @@ use lib.ListN.{getD, drop}
 use lib.Pow.{field, mod-mod-pow}
 use lib.Seq.{getD-drop}
 use Rattle.ground.specs.Choice.{pick}
-use Rattle.bitset.specs.Sets.{has, setOf, union}
-use Rattle.bitset.proofs.SetLaws.{ext, has-none, has-shifted, has-union, setOf-lt, setOf-same, union-nothing}
+use Rattle.bitset.specs.Sets.{has, union}
+use Rattle.bitset.proofs.SetLaws.{has-shifted, has-union, setOf-same, union-nothing}
 use Rattle.unions.specs.Union.{unionOf}
 use Rattle.unions.proofs.UnionLaws.{union-lt, union-with, union-without}
 

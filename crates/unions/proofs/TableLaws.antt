@@ -2,11 +2,11 @@
 --     two-filled                   four stores are a run of stores
 --     four-filled                  four runs of stores are the choices among four sets
 --     filled-none, filled-more     no group, and one more
---     rest-none                    no slot is in use after the groups
+--     tabled-some, tabled-most     no slot is in use after the groups; all groups
 --     tabled-turn, tabled-all      one group more of a union; the groups, and then slot 32
 -- Assumes nothing.
 use Prim.Native.Nat.{ℕ, zero, suc, _+_, _-_, _*_, _/_, _%_, _^_, _≤_, _<_}
-use mathlib.Core.Path.{_≡_, refl, sym, _∙_, ap, ap₂, subst}
+use mathlib.Core.Path.{_≡_, refl, sym, _∙_, ap, ap₂}
 use mathlib.Core.Bool.{Bool, true, false, not}
 use mathlib.Core.Logic.{⊎-elim}
 use mathlib.Core.List.{List, [], _∷_, _++_}
@@ -21,7 +21,7 @@ use Rattle.ground.proofs.BoolLaws.{lt-or-le}
 use Rattle.ground.proofs.SequenceLaws.{get-listOf, listOf-length}
 use Rattle.endian.proofs.WrittenLaws.{sets-twice}
 use Rattle.bitset.specs.Sets.{has, union}
-use Rattle.bitset.proofs.SetLaws.{has-none, has-shifted, union-nothing}
+use Rattle.bitset.proofs.SetLaws.{has-none, has-shifted}
 use Rattle.unions.specs.Union.{unionOf, inUse, usedIn}
 use Rattle.unions.specs.Tables.{withTwo, choices, Tabled}
 use Rattle.unions.proofs.UnionLaws.{union-lt, used-at}

@@ -1,9 +1,8 @@
 -- The union over a mask: its members, and the slots of the mask that are in use, of which alone it is made.
 -- Assumes nothing.
 use Prim.Native.Nat.{ℕ, zero, suc, _+_, _-_, _/_, _^_, _≤_, _<_}
-use mathlib.Core.Path.{_≡_, refl, sym, _∙_, ap, ap₂, subst}
+use mathlib.Core.Path.{_≡_, refl, sym, _∙_, ap, ap₂}
 use mathlib.Core.Bool.{Bool, true, false, not, _&&_, _||_, or-false}
-use mathlib.Core.Logic.{⊎-elim}
 use mathlib.Core.List.{List}
 use native.Mathlib.Omega.{arith}
 use native.Mathlib.Numerals.{add-one}
@@ -13,10 +12,9 @@ use lib.Pow.{pow-pos}
 use borrow.Author.Tests.{eq-eqb, ne-eqb, eqb-true}
 use Rattle.ground.specs.Choice.{pick}
 use Rattle.ground.specs.Search.{anyBelow}
-use Rattle.ground.proofs.BoolLaws.{clash, and-left, and-right, and-both, lt-or-le}
-use Rattle.ground.proofs.SearchLaws.{any-out, any-stop}
+use Rattle.ground.proofs.BoolLaws.{clash, and-left}
 use Rattle.bitset.specs.Sets.{has, setOf, union, intersection, Lowest}
-use Rattle.bitset.proofs.SetLaws.{has-none, has-past, has-below, has-union, has-intersection, has-shifted, setOf-lt, union-nothing}
+use Rattle.bitset.proofs.SetLaws.{has-none, has-below, has-union, has-intersection, has-shifted, setOf-lt, union-nothing}
 use Rattle.unions.specs.Union.{inUse, usedIn, unionOf}
 
 -- ---- one slot more

@@ -3,9 +3,8 @@ ghost use mathlib.Core.Path.{_≡_};
 ghost use mathlib.Core.List.{[], _∷_};
 ghost use Prim.Native.Nat.{_+_, _≤_};
 ghost use lib.ListN.{length};
-ghost use lib.Seq.{sets};
 ghost use Rattle.unions.specs.Union.{usedIn, unionOf};
-ghost use Rattle.unions.specs.Tables.{withTwo, choices, Tabled};
+ghost use Rattle.unions.specs.Tables.{stored, withTwo, choices, Tabled};
 
 // The slots whose sets are not empty.
 pub fn used_in(sets: &[u64; 33]) -> u64
@@ -48,7 +47,7 @@ pub fn union_in(sets: &[u64; 33], used: u64, mask: u64) -> u64
 // x alone, with a, with b, and with both.
 fn fill_two(table: &mut [u64; 128], at: usize, a: u64, b: u64, ab: u64, x: u64)
     requires { ⌜ at + 4 ≤ 128 ⌝ }
-    ensures { λ _. ⌜ now (table .exit) ≡ sets (now (table .entry)) at (withTwo a b ab x) ⌝ }
+    ensures { λ _. ⌜ now (table .exit) ≡ stored (now (table .entry)) at (withTwo a b ab x) ⌝ }
 {
     table[at] = x;
     table[at + 1] = bitset::either(a, x);
@@ -59,7 +58,7 @@ fn fill_two(table: &mut [u64; 128], at: usize, a: u64, b: u64, ab: u64, x: u64)
 // The unions of every choice among four sets.
 fn fill_four(table: &mut [u64; 128], at: usize, a: u64, b: u64, c: u64, d: u64)
     requires { ⌜ at + 16 ≤ 128 ⌝ }
-    ensures { λ _. ⌜ now (table .exit) ≡ sets (now (table .entry)) at (choices (a ∷ b ∷ c ∷ d ∷ [])) ⌝ }
+    ensures { λ _. ⌜ now (table .exit) ≡ stored (now (table .entry)) at (choices (a ∷ b ∷ c ∷ d ∷ [])) ⌝ }
 {
     let ab = bitset::either(a, b);
     let cd = bitset::either(c, d);
@@ -69,7 +68,8 @@ fn fill_four(table: &mut [u64; 128], at: usize, a: u64, b: u64, c: u64, d: u64)
     fill_two(table, at + 12, a, b, ab, cd);
 }
 
-// The table of the groups of four slots as far as one is in use, and how many groups those are. Slot 32 is in no group.
+// The table of the groups of four slots as far as one is in use, and how many groups those are. Slot 32 is in no group. (A lent array
+// does not tell its length, so that the contract asks it.)
 pub fn fill(sets: &[u64; 33], used: u64, table: &mut [u64; 128]) -> usize
     requires { ⌜ (used ≡ usedIn (now sets)) × (length (now table) ≡ 128) ⌝ }
     ensures { λ g. ⌜ Tabled (now (sets .entry)) (now (table .exit)) g ⌝ }

@@ -1,3 +1,4 @@
+-- Four rows of four: neither of the last two sets, either, and both.
 use Rattle.unions.proofs.TableLaws.{four-filled}
 use borrow.Author.Needs.{needs}
 use Rattle.unions.proofs.fill_four.Statement.{statement}
@@ -31,8 +32,10 @@ fill-two-requires-4 : tie.Need-fill-two-requires-4
 fill-two-requires-4 c κs = search needs
 
 returns : tie.Need-returns
-returns c = let a = c .before .before .before .before .before .before .before .before .before .before .args in
-    four-filled (a .a) (a .b) (a .c) (a .d) (c .before .before .before .before .before .before .before .before .before .before .fits .a .fits) (c .before .before .before .before .before .before .before .before .before .before .fits .b .fits) (c .before .before .before .before .before .before .before .before .before .before .fits .c .fits) (c .before .before .before .before .before .before .before .before .before .before .fits .d .fits) (a .table .now) (a .at) _ _ (c .before .before .before .before .before .before .before .before .before .either .ensures) (c .before .before .before .before .before .before .before .before .either2 .ensures) (c .before .before .before .before .before .before .fill-two .ensures) (c .before .before .before .before .fill-two2 .ensures) (c .before .before .fill-two3 .ensures) (c .fill-two4 .ensures)
+returns c = let z = c .before .before .before .before .before .before .before .before .before .before in let a = z .args in
+    four-filled (a .a) (a .b) (a .c) (a .d) (z .fits .a .fits) (z .fits .b .fits) (z .fits .c .fits) (z .fits .d .fits) (a .table .now) (a .at) _ _
+    (c .before .before .before .before .before .before .before .before .before .either .ensures) (c .before .before .before .before .before .before .before .before .either2 .ensures)
+    (c .before .before .before .before .before .before .fill-two .ensures) (c .before .before .before .before .fill-two2 .ensures) (c .before .before .fill-two3 .ensures) (c .fill-two4 .ensures)
 
 pub fill-four-spec : {M : Type 1} → statement M
 fill-four-spec =
