@@ -37,7 +37,7 @@ use Rattle.derivation.proofs.ValueLaws.{era-values, cell-values, hoursCuts-leng
 use Rattle.derivation.proofs.TableFields.{fieldsOf-length}
 use Rattle.grid.specs.declared.Division.{Division}
 use Rattle.cuts.specs.Added.{Added, hoursNo}
-use Rattle.grid.specs.Grid.{fieldMask, gapAt, InCells, maskIn, Cuts, masksTo, Divided}
+use Rattle.grid.specs.Grid.{fieldMask, gapAt, InCells, maskIn, Cuts, masksTo, Parted, Divided}
 use Rattle.cuts.proofs.RecordLaws.{few-hours}
 use Rattle.grid.proofs.OrderLaws.{gaps-at, gap-in, added-cuts}
 use Rattle.grid.proofs.FieldLaws.{holds-split}
@@ -175,5 +175,5 @@ module _ (s : List ℕ) (ok : rotaJudged s ≡ 0) where
       }
 
 -- 65 eras by 513 cells are the most
-pub fields-few : {s : List ℕ} {d : Division} → Divided s d → d .«era_count» * d .«cell_count» ≤ 33345
-fields-few {d = d} w = omega (arith, mul-le-mul-right (d .«cell_count») (w .few-eras), w .few-cells)
+pub fields-few : {s eras : List ℕ} {ne : ℕ} {cells : List ℕ} {nc : ℕ} → Parted s eras ne cells nc → ne * nc ≤ 33345
+fields-few {nc = nc} w = omega (arith, mul-le-mul-right nc (w .few-eras), w .few-cells)

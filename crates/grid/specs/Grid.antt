@@ -56,9 +56,13 @@ pub record Ready (s : List ℕ) (c from h : ℕ) (eras : List ℕ) (ne : ℕ) (c
 unfoldable pub masksTo : List ℕ → List ℕ → ℕ → List ℕ
 masksTo s eras i = map (maskOf (rotaOf s)) (fieldsOf (listOf i (gapAt eras)) (gaps (cellCuts (rotaOf s))))
 
--- the division has the rota's cuts
-pub record Divided (s : List ℕ) (d : Division) : Type 0 where
-  pub few-eras : d .«era_count» ≤ 65
-  pub few-cells : d .«cell_count» ≤ 513
-  pub era-cuts : Cuts (eraCuts (rotaOf s)) (d .eras) (d .«era_count») E
-  pub cell-cuts : Cuts (cellCuts (rotaOf s)) (d .cells) (d .«cell_count») (cycleOf s)
+-- arrays with the cuts of a rota's eras and of its cells
+pub record Parted (s eras : List ℕ) (ne : ℕ) (cells : List ℕ) (nc : ℕ) : Type 0 where
+  pub few-eras : ne ≤ 65
+  pub few-cells : nc ≤ 513
+  pub era-cuts : Cuts (eraCuts (rotaOf s)) eras ne E
+  pub cell-cuts : Cuts (cellCuts (rotaOf s)) cells nc (cycleOf s)
+
+-- the division has them
+abbrev pub Divided : List ℕ → Division → Type 0
+Divided s d = Parted s (d .eras) (d .«era_count») (d .cells) (d .«cell_count»)

@@ -56,9 +56,9 @@ module _ {s eras : List ℕ} {ne nc w : ℕ} {kinds pairs links : List ℕ} {i f
   pub next-place : i < ne → first + nc ≤ ne * nc
   next-place h = omega (arith, p .place, mul-le-mul-right nc h)
 
-  pub row-room : {row₀ kinds₀ pairs₀ links₀ row : List ℕ} → i < ne → nc ≤ length row₀ → Room (ne * nc) w kinds₀ pairs₀ links₀
+  pub row-room : (row₀ kinds₀ pairs₀ links₀ row : List ℕ) → i < ne → nc ≤ length row₀ → Room (ne * nc) w kinds₀ pairs₀ links₀
       → Long row₀ kinds₀ pairs₀ links₀ row kinds pairs links → RowRoom nc d first w row kinds pairs links
-  row-room h lr r l =
+  row-room row₀ kinds₀ pairs₀ links₀ row h lr r l =
       let z = next-place h in
       record {
         for-row = omega (arith, l .of-row);

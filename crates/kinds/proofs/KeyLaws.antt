@@ -199,3 +199,6 @@ after-new d k h l = let e : k ≡ d = omega arith in rw (eq-eqb k d e)
 
 pub held-same : {w n k a b : ℕ} {pairs links : List ℕ} → n ≡ k → Indexed w k pairs links a b → Indexed w n pairs links a b
 held-same e x = rw e x
+
+pub held-none : {w : ℕ} {pairs links : List ℕ} → Indexed w 0 pairs links 18446744073709551615 0 → Held w 0 pairs links
+held-none x = record { alone = λ k h. absurd (omega arith); indexed = x }

@@ -4,14 +4,14 @@
 -- Assumes nothing.
 use Prim.Native.Nat.{ℕ, zero, suc, _+_, _*_, _%_, _^_, _≤_, _<_}
 use mathlib.Core.Path.{_≡_, refl, sym, _∙_, ap, ap₂, subst}
-use mathlib.Core.Bool.{Bool, true, false, _&&_, _||_, or-false}
-use mathlib.Core.Logic.{⊎-elim}
+use mathlib.Core.Bool.{Bool, true, false, _&&_, _||_, or-true, or-false}
+use mathlib.Core.Logic.{_⊎_, inl, inr}
 use mathlib.Core.List.{List, [], _∷_, _++_, map}
-use native.Mathlib.Numerals.{add-one}
+use native.Mathlib.Numerals.{add-one, unary-clauses}
 use native.Mathlib.Omega.{arith}
 use lib.Dec.{eqb, ltb}
-use lib.ListN.{length, take, set}
-use lib.Pow.{pow-le}
+use lib.ListN.{length, getD, take, set}
+use lib.Pow.{pow-mono}
 use lib.Seq.{take-suc-set}
 use borrow.Author.Tests.{eq-eqb, ne-eqb, lt-ltb, le-ltb}
 use Rattle.ground.specs.Choice.{pick}
@@ -57,7 +57,7 @@ set-top (suc n) f e =
     omega arith
 
 module _ (y : ℕ) (small : y < 2 ^ 32) where
-  joins : ℕ → Bool
+  abbrev joins : ℕ → Bool
   joins j = has y j || eqb j 32
 
   lower : insert y 32 ≡ setOf 33 joins
@@ -94,7 +94,7 @@ mask-told ρ few f = go (ltb (minuteOf (ρ .cycle) f) (f .end))
     hours = setOf (length (ρ .hours)) (λ k. holds (ρ .cycle) (getD (ρ .hours) k never) (minuteOf (ρ .cycle) f))
 
     small : hours < 2 ^ 32
-    small = lt-le (setOf-lt (length (ρ .hours)) (λ k. holds (ρ .cycle) (getD (ρ .hours) k never) (minuteOf (ρ .cycle) f))) (pow-le few)
+    small = omega (arith, setOf-lt (length (ρ .hours)) (λ k. holds (ρ .cycle) (getD (ρ .hours) k never) (minuteOf (ρ .cycle) f)), pow-mono few)
 
     go : (b : Bool) → (pick b (insert hours 32) 0 ≡ 0 → ⊥) → Told (pick b (insert hours 32) 0)
     go true ne = ap (λ (x : ℕ). insert x 32) (bare-is hours small)

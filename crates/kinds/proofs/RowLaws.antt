@@ -104,7 +104,7 @@ module _ {row : List ℕ} {n : ℕ} {kinds₀ : List ℕ} {first : ℕ} {pairs�
       let e : c ≡ n = omega (arith, s .within) in
       let none : drop c (take n row) ≡ [] = ap (λ (i : ℕ). drop i (take n row)) e ∙ slice-empty n row in (
         ap (λ (i : ℕ). take (first + i) kinds) (sym e) ∙ sym (append-nil (take (first + c) kinds))
-        ∙ ap (λ (l : List ℕ). take (first + c) kinds ++ l) (sym (ap (kindsFrom (keys count pairs)) none ∙ (unfold kindsFrom in refl))) ∙ s .kinds-so,
+            ∙ ap (λ (l : List ℕ). take (first + c) kinds ++ l) (sym (ap (kindsFrom (keys count pairs)) none ∙ (unfold kindsFrom in refl))) ∙ s .kinds-so,
         sym (ap (masksFrom (keys count pairs)) none ∙ (unfold masksFrom in refl)) ∙ s .masks-so,
         s .held,
         omega (arith, s .most),

@@ -8,9 +8,8 @@ ghost use Rattle.ground.specs.Sequence.{listOf};
 ghost use Rattle.rota.specs.Inside.{Located};
 ghost use Rattle.derivation.specs.Kinds.{masksFrom, kindsFrom};
 ghost use Rattle.trees.specs.Tree.{Indexed};
-ghost use Rattle.grid.specs.Grid.{Divided, Ready};
+ghost use Rattle.grid.specs.Grid.{Parted, Ready};
 ghost use Rattle.kinds.specs.Kinds.{keys, Held, Known, Found, RowRoom, Room, bare, Numbered, NumberedTo};
-use grid::Division;
 use rota::Layout;
 
 // The kind of a mask, and how many distinct masks there are with it.
@@ -132,11 +131,14 @@ fn keep(pairs: &[u64], d: usize, sets: &mut [u32])
     }
 }
 
-// Numbers the fields of a rota that is divided: the kind of each, and the distinct masks without the bit for always. How many these are.
+// Numbers the fields of a rota that is divided so: the kind of each, and the distinct masks without the bit for always. How many these are.
 pub fn number(
     s: &[u8],
     l: Layout,
-    division: Division,
+    eras: &[u32],
+    ne: usize,
+    cells: &[u32],
+    nc: usize,
     held: &mut [u64],
     row: &mut [u64],
     kinds: &mut [u16],
@@ -145,25 +147,22 @@ pub fn number(
     links: &mut [u16],
     w: usize,
 ) -> usize
-    requires { ⌜ Located (now s) l × Divided (now s) division × (division .«cell_count» ≤ length (now held)) × (division .«cell_count» ≤ length (now row)) ⌝ }
-    requires { ⌜ Room (division .«era_count» * division .«cell_count») w (now kinds) (now pairs) (now links) × (division .«era_count» * division .«cell_count» ≤ length (now sets)) ⌝ }
-    ensures { λ d. ⌜ Numbered (now (s .entry)) (division .«era_count» * division .«cell_count») d (now (kinds .exit)) (now (sets .exit)) ⌝ }
+    requires { ⌜ Located (now s) l × Parted (now s) (now eras) ne (now cells) nc × (nc ≤ length (now held)) × (nc ≤ length (now row)) ⌝ }
+    requires { ⌜ Room (ne * nc) w (now kinds) (now pairs) (now links) × (ne * nc ≤ length (now sets)) ⌝ }
+    ensures { λ d. ⌜ Numbered (now (s .entry)) (ne * nc) d (now (kinds .exit)) (now (sets .exit)) ⌝ }
 {
     let n = l.counts;
     let h = n.hours as usize;
-    let eras = division.eras;
-    let cells = division.cells;
-    let nc = division.cell_count;
-    grid::cell_masks(s, l.hours_at, h, &cells, nc, held);
+    grid::cell_masks(s, l.hours_at, h, cells, nc, held);
     index::clear(links, w);
     let d = number_all(
         s,
         n.cycle,
         l.hours_at,
         h,
-        &eras,
-        division.era_count,
-        &cells,
+        eras,
+        ne,
+        cells,
         nc,
         held,
         row,

@@ -49,16 +49,17 @@ era-masks-requires c κs =
 
 number-row-requires : tie.Need-number-row-requires Inv-loop μ-loop
 number-row-requires c κs =
+    let a = c .before .before .before .before .before .before .before .before .before .before .before .before .before .before .before .before .before .before .before .before .before .args in
     let p = c .before .before .before .before .before .before .before .before .before .before .before .before .before .before .before .before .before .before .before .before .before .pre in
     let l = c .before .before .before .before .before .before .before .before .before .before .before .before .loop in
     let g = l .inv .1 in
-    (row-room (l .inv .0) (c .before .before .before .before .before .before .before .before .before .before .before .loop-test .taken) (p .0 .1) (p .1 .0) (record { of-row = c .before .before .before .before .before .before .era-masks .kept .1 .1 .1 .1 .1 .1 .1 .0 ∙ g .of-row; of-kinds = g .of-kinds; of-pairs = g .of-pairs; of-links = g .of-links }), l .inv .0 .held)
+    (row-room (l .inv .0) (a .row .now) (a .kinds .now) (a .pairs .now) (a .links .now) _ (c .before .before .before .before .before .before .before .before .before .before .before .loop-test .taken) (p .0 .1) (p .1 .0) (record { of-row = c .before .before .before .before .before .before .era-masks .kept .1 .1 .1 .1 .1 .1 .1 .0 ∙ g .of-row; of-kinds = g .of-kinds; of-pairs = g .of-pairs; of-links = g .of-links }), l .inv .0 .held)
 
 add-first : tie.Need-add-first Inv-loop μ-loop
 add-first c = omega (arith, next-place (c .before .before .before .before .before .before .before .before .before .before .before .before .before .before .before .before .before .before .before .loop .inv .0) (c .before .before .before .before .before .before .before .before .before .before .before .before .before .before .before .before .before .before .loop-test .taken), c .before .before .before .before .before .before .before .before .before .before .before .before .before .before .before .before .before .before .before .before .before .before .before .before .before .before .before .before .pre .1 .0 .few)
 
 add-i : tie.Need-add-i Inv-loop μ-loop
-add-i c = omega (arith, c .before .before .before .before .before .before .before .before .before .before .before .before .before .before .before .before .before .before .loop-test .taken, c .before .before .before .before .before .before .before .before .before .before .before .before .before .before .before .before .before .before .before .before .before .before .before .before .before .before .before .before .pre .0 .0 .era-cuts .long)
+add-i c = omega (arith, c .before .before .before .before .before .before .before .before .before .before .before .before .before .before .before .before .before .before .loop-test .taken, c .before .before .before .before .before .before .before .before .before .before .before .before .before .before .before .before .before .before .before .before .before .before .before .before .before .before .before .before .fits .ne .fits)
 
 loop-less : tie.Need-loop-less Inv-loop μ-loop
 loop-less c = omega (arith, c .before .before .before .before .before .before .before .before .before .before .before .before .before .before .before .before .before .before .loop-test .taken)
