@@ -81,12 +81,12 @@ fn count_era(kinds: &[u16], first: usize, nc: usize, marks: &[u16]) -> usize
     ensures { λ r. ⌜ r ≡ runsIn 0 (take nc (drop first (fieldMarks (now (marks .entry)) (now (kinds .entry))))) ⌝ }
 {
     let mut rows = 0;
-    let mut run = 0;
+    let mut prior = 0;
     let mut c = 0;
     while c < nc {
         let m = mark_of(kinds, first + c, marks);
-        rows += starts(m, run);
-        run = m;
+        rows += starts(m, prior);
+        prior = m;
         c += 1;
     }
     rows

@@ -10,10 +10,10 @@ use Rattle.writing.proofs.count_era.Statement.{statement}
 use Rattle.writing.proofs.count_era.Tie as tie
 
 abbrev Inv-loop : tie.InvT-loop
-Inv-loop kinds first nc marks rows₀ run₀ c₀ rows run c = (c ≤ nc) × (rows ≤ c) × (rows + runsIn run (marksLeft c nc first (fieldMarks marks kinds)) ≡ runsIn 0 (take nc (drop first (fieldMarks marks kinds))))
+Inv-loop kinds first nc marks rows₀ prior₀ c₀ rows prior c = (c ≤ nc) × (rows ≤ c) × (rows + runsIn prior (marksLeft c nc first (fieldMarks marks kinds)) ≡ runsIn 0 (take nc (drop first (fieldMarks marks kinds))))
 
 abbrev μ-loop : tie.MeasureT-loop
-μ-loop kinds first nc marks rows₀ run₀ c₀ rows run c = nc - c
+μ-loop kinds first nc marks rows₀ prior₀ c₀ rows prior c = nc - c
 
 loop-holds : tie.Need-loop-holds Inv-loop μ-loop
 loop-holds c = (omega arith, omega arith, omega arith)
@@ -28,7 +28,7 @@ starts-requires : tie.Need-starts-requires Inv-loop μ-loop
 starts-requires c κs = tt
 
 add-rows : tie.Need-add-rows Inv-loop μ-loop
-add-rows c = let a = c .before .before .before .before .before .before .args in omega (arith, c .starts .ensures, starts-most (c .before .mark-of .result) (c .before .before .before .loop .run), c .before .before .before .before .before .before .pre .long)
+add-rows c = let a = c .before .before .before .before .before .before .args in omega (arith, c .starts .ensures, starts-most (c .before .mark-of .result) (c .before .before .before .loop .prior), c .before .before .before .before .before .before .pre .long)
 
 add-c : tie.Need-add-c Inv-loop μ-loop
 add-c c = omega arith
@@ -39,12 +39,12 @@ loop-less c = omega arith
 loop-again : tie.Need-loop-again Inv-loop μ-loop
 loop-again c = let a = c .before .before .before .before .before .before .args in let l = c .before .before .before .loop in let h = c .before .before .loop-test .taken in (
   omega arith,
-  omega (arith, c .starts .ensures, starts-most (c .before .mark-of .result) (l .run)),
-  count-turn (a .nc) (a .first) (fieldMarks (a .marks .now) (a .kinds .now)) (marks-room (a .first) (a .nc) (a .kinds .now) (a .marks .now) (c .before .before .before .before .before .before .pre)) (l .c) (l .run) (l .rows) _ _ _ h (l .inv .2) (c .before .mark-of .ensures) (c .starts .ensures),
+  omega (arith, c .starts .ensures, starts-most (c .before .mark-of .result) (l .prior)),
+  count-turn (a .nc) (a .first) (fieldMarks (a .marks .now) (a .kinds .now)) (marks-room (a .first) (a .nc) (a .kinds .now) (a .marks .now) (c .before .before .before .before .before .before .pre)) (l .c) (l .prior) (l .rows) _ _ _ h (l .inv .2) (c .before .mark-of .ensures) (c .starts .ensures),
 )
 
 returns : tie.Need-returns Inv-loop μ-loop
-returns c = let a = c .before .before .before .before .args in let l = c .before .loop in omega (arith, l .inv .2, runs-none (a .nc) (a .first) (fieldMarks (a .marks .now) (a .kinds .now)) (marks-room (a .first) (a .nc) (a .kinds .now) (a .marks .now) (c .before .before .before .before .pre)) (l .c) (l .run) (omega arith))
+returns c = let a = c .before .before .before .before .args in let l = c .before .loop in omega (arith, l .inv .2, runs-none (a .nc) (a .first) (fieldMarks (a .marks .now) (a .kinds .now)) (marks-room (a .first) (a .nc) (a .kinds .now) (a .marks .now) (c .before .before .before .before .pre)) (l .c) (l .prior) (omega arith))
 
 pub count-era-spec : {M : Type 1} → statement M
 count-era-spec =

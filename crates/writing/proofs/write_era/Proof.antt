@@ -1,6 +1,6 @@
 -- What is left of the era's rows, written from here, is the whole: the row of the run so far, which the next cells may lengthen, and the rows after it.
 use native.Mathlib.Omega.{arith}
-use mathlib.Core.Path.{_≡_, sym, _∙_}
+use mathlib.Core.Path.{_≡_, _∙_}
 use mathlib.Core.Logic.{⊎-elim}
 use Prim.Native.Nat.{_-_}
 use Rattle.writing.specs.Parts.{fieldMarks, eraRows}
@@ -34,7 +34,7 @@ shared-slice-read-write-marked c = omega (arith, c .before .before .before .befo
 
 write-marked-requires : tie.Need-write-marked-requires Inv-loop μ-loop
 write-marked-requires c κs = let a = c .before .before .before .before .before .before .before .before .before .before .before .args in let p = c .before .before .before .before .before .before .before .before .before .before .before .pre in let l = c .before .before .before .before .before .loop in (
-  run-room (a .base) (a .begin) (a .end) (a .nc) (a .cells .now) (fieldMarks (a .marks .now) (a .kinds .now)) (a .first) (p .1 .1) (l .inv) (c .before .before .before .before .loop-test .taken) (marks-room (a .first) (a .nc) (a .kinds .now) (a .marks .now) (p .1 .0)) (λ z. c .before .before .if1 .taken (c .before .before .before .mark-of .ensures ∙ z)) (p .0 .0),
+  run-room (a .base) (a .begin) (a .end) (a .nc) (a .cells .now) (fieldMarks (a .marks .now) (a .kinds .now)) (a .first) (p .1 .1) (l .inv) (c .before .before .before .before .loop-test .taken) (marks-room (a .first) (a .nc) (a .kinds .now) (a .marks .now) (p .1 .0)) (λ z. omega (arith, z, c .before .before .if1 .taken, c .before .before .before .mark-of .ensures)) (p .0 .0),
   p .0 .1,
   l .inv .from,
   p .1 .1 .most (l .c) (l .inv .up-to),
@@ -55,8 +55,8 @@ loop-less c = omega arith
 loop-again : tie.Need-loop-again Inv-loop μ-loop
 loop-again c = let a = c .before .before .before .before .before .before .before .before .before .args in let p = c .before .before .before .before .before .before .before .before .before .pre in let l = c .before .before .before .loop in let h = c .before .before .loop-test .taken in let m = c .before .mark-of .ensures in
     ⊎-elim
-    (λ w. run-written (a .base) (a .begin) (a .end) (a .nc) (a .cells .now) (fieldMarks (a .marks .now) (a .kinds .now)) (a .first) (p .1 .1) (l .inv) h (marks-room (a .first) (a .nc) (a .kinds .now) (a .marks .now) (p .1 .0)) (λ z. w .0 .taken (m ∙ z)) _ _ _ _ (w .7 ∙ w .3 .ensures .0) (w .8 ∙ w .3 .ensures .1) (w .9 ∙ m) (w .10))
-    (λ w. run-kept (a .base) (a .begin) (a .end) (a .nc) (a .cells .now) (fieldMarks (a .marks .now) (a .kinds .now)) (a .first) (p .1 .1) (l .inv) h (marks-room (a .first) (a .nc) (a .kinds .now) (a .marks .now) (p .1 .0)) (sym m ∙ w .0 .left) _ _ _ _ (w .1) (w .2) (w .3) (w .4))
+    (λ w. run-written (a .base) (a .begin) (a .end) (a .nc) (a .cells .now) (fieldMarks (a .marks .now) (a .kinds .now)) (a .first) (p .1 .1) (l .inv) h (marks-room (a .first) (a .nc) (a .kinds .now) (a .marks .now) (p .1 .0)) (λ z. omega (arith, z, w .0 .taken, m)) _ _ _ _ (w .7 ∙ w .3 .ensures .0) (w .8 ∙ w .3 .ensures .1) (w .9 ∙ m) (w .10))
+    (λ w. run-kept (a .base) (a .begin) (a .end) (a .nc) (a .cells .now) (fieldMarks (a .marks .now) (a .kinds .now)) (a .first) (p .1 .1) (l .inv) h (marks-room (a .first) (a .nc) (a .kinds .now) (a .marks .now) (p .1 .0)) (omega (arith, w .0 .left, m)) _ _ _ _ (w .1) (w .2) (w .3) (w .4))
     (c .if1 .came)
 
 mul-write-marked-2 : tie.Need-mul-write-marked-2 Inv-loop μ-loop
