@@ -1,4 +1,5 @@
 pub mod OrderLaws
 pub mod FieldLaws
+pub mod JoinLaws
 pub mod MaskLaws
 pub mod LaidLaws

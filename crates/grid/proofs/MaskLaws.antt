@@ -1,24 +1,19 @@
 -- What the functions that make and store masks find.
 --     field-some, field-none                     a field with a minute, and one without
---     in-cells-none, in-cells-more               a set for each cell
 --     store-none, store-more                     values stored one after the other from a place on
 -- Assumes nothing.
 use Prim.Native.Nat.{ℕ, suc, _+_, _≤_, _<_}
 use mathlib.Core.Path.{_≡_, refl, sym, ap, ap₂, _∙_}
-use mathlib.Core.Logic.{⊎-elim}
 use mathlib.Core.List.{List, [], _∷_, _++_, append-assoc, append-nil}
-use native.Mathlib.Nat.{not-suc-le-zero, le-of-suc-le-suc, eq-or-lt-of-le}
 use native.Mathlib.Numerals.{add-one}
 use native.Mathlib.Omega.{arith}
 use borrow.Author.Tests.{lt-ltb, le-ltb}
-use lib.ListN.{length, getD, take, set}
-use lib.Seq.{take-suc-set, getD-set-same, getD-set-other}
+use lib.ListN.{length, take, set}
+use lib.Seq.{take-suc-set}
 use Rattle.ground.specs.Sequence.{listOf}
 use Rattle.bitset.specs.Sets.{insert, intersection}
 use Rattle.minutes.specs.First.{firstIn}
-use Rattle.hours.specs.Inside.{pairsHold, recordsThat}
-use Rattle.rota.specs.RotaBytes.{headerLength}
-use Rattle.grid.specs.Grid.{fieldMask, InCells}
+use Rattle.grid.specs.Grid.{fieldMask}
 
 -- ---- one field
 module _ (c dates pairs b e o f t : ℕ) (first : t ≡ firstIn c b o f) where
@@ -29,21 +24,6 @@ module _ (c dates pairs b e o f t : ℕ) (first : t ≡ firstIn c b o f) where
   pub field-none : e ≤ t → 0 ≡ fieldMask c dates pairs b e o f
   unfolding fieldMask
   field-none l = rw (← first, le-ltb t e l) refl
-
--- ---- the cells
-module _ (s : List ℕ) (h : ℕ) (cells : List ℕ) where
-  pub in-cells-none : (l : List ℕ) → InCells s h cells 0 l
-  in-cells-none l = record { each = λ j k. absurd (not-suc-le-zero k) }
-
-  pub in-cells-more : (n v : ℕ) (l : List ℕ) → InCells s h cells n l → n < length l → v ≡ recordsThat s (headerLength s) h (pairsHold (getD cells n 0)) → InCells s h cells (n + 1) (set l n v)
-  in-cells-more n v l p k ev = record { each = each }
-    where
-      each : (j : ℕ) → j < n + 1 → getD (set l n v) j 0 ≡ recordsThat s (headerLength s) h (pairsHold (getD cells j 0))
-      each j m =
-          ⊎-elim
-          (λ (e : j ≡ n). rw e (getD-set-same l n v 0 k ∙ ev))
-          (λ (q : j < n). getD-set-other l n j v 0 (λ e. absurd (omega arith)) ∙ p .each j q)
-          (eq-or-lt-of-le (le-of-suc-le-suc (rw add-one at m)))
 
 -- ---- stores one after the other
 pub store-none : (first : ℕ) (l : List ℕ) (f : ℕ → ℕ) → take (first + 0) l ≡ take first l ++ listOf 0 f

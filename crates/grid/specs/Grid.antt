@@ -1,6 +1,7 @@
 -- The eras, the cells and the field masks of a rota's bytes, as the code lays them out in arrays.
-use Prim.Native.Nat.{ℕ, _+_, _*_, _≤_, _<_}
+use Prim.Native.Nat.{ℕ, _+_, _≤_, _<_}
 use mathlib.Core.Path.{_≡_}
+use mathlib.Core.Bool.{Bool}
 use mathlib.Core.List.{List, map}
 use lib.Dec.{ltb}
 use lib.ListN.{length, getD, take}
@@ -29,6 +30,10 @@ gapAt l k = record { low = getD l k 0; high = getD l (k + 1) 0 }
 -- for each of the first n cells, the records whose pairs hold in it
 pub record InCells (s : List ℕ) (h : ℕ) (cells : List ℕ) (n : ℕ) (pairs : List ℕ) : Type 0 where
   pub each : (j : ℕ) → j < n → getD pairs j 0 ≡ recordsThat s (headerLength s) h (pairsHold (getD cells j 0))
+
+-- of the sets of the first n cells, those of a cell whose low end passes the test have k as a member too, and the others are as they were
+pub record Joined (cells : List ℕ) (n k : ℕ) (test : ℕ → Bool) (before after : List ℕ) : Type 0 where
+  pub each : (j : ℕ) → j < n → getD after j 0 ≡ pick (test (getD cells j 0)) (insert (getD before j 0) k) (getD before j 0)
 
 -- the mask in cell j of the era from b to e
 unfoldable pub maskIn : ℕ → ℕ → ℕ → ℕ → List ℕ → List ℕ → ℕ → ℕ
