@@ -25,7 +25,7 @@ use Rattle.derivation.proofs.CutLaws.{Above}
 use Rattle.derivation.proofs.RunLaws.{run-on, run-ends, run-last, rows-later, era-by-era}
 use Rattle.derivation.proofs.TableCuts.{gaps-length, gapsFrom-low, rising-above}
 use Rattle.grid.specs.Grid.{Cuts}
-use Rattle.writing.specs.Parts.{cellOf, roleRows, startsRow, runsIn, runsOf, CountedRows}
+use Rattle.writing.specs.Parts.{roleRows, startsRow, runsIn, runsOf, CountedRows}
 use Rattle.writing.proofs.FieldLaws.{gap, gaps-start, marked-front, marksLeft, marks-turn, marks-none, next-first}
 
 -- ---- one field

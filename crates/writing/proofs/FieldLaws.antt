@@ -1,4 +1,8 @@
 -- Fields and marks passed over one at a time: cells of an era, then eras.
+--     gapsLeft, gaps-start, gaps-turn, gaps-none, gaps-count    the gaps between cuts
+--     mark-is, marks-long, marks-room, fewer-marks              the marks of fields by kind
+--     InRun                                                     a run of cells with one mark: it goes on, ends, or is the last
+--     roleLeft, role-turn, era-room, era-written                the rows of the eras that are left
 -- Assumes nothing.
 use Prim.Native.Nat.{ℕ, zero, suc, _+_, _-_, _*_, _≤_, _<_}
 use mathlib.Core.Path.{_≡_, refl, sym, _∙_, ap, ap₂, subst}
