@@ -75,8 +75,29 @@ fn fields(rota: &Rota) -> Vec<Field> {
     fields
 }
 
-/// The table of a rota.
+/// The table of a rota: neighbouring rows that touch are one.
 pub fn table(rota: &Rota) -> Table {
+    let table = unjoined(rota);
+    let mut rows: Vec<table::Row> = Vec::new();
+    for row in table.rows {
+        match rows.last_mut() {
+            Some(before) if touch(before, &row) => before.length += row.length,
+            _ => rows.push(row),
+        }
+    }
+    Table { rows, ..table }
+}
+
+/// Whether two rows are of one derived role and one era, and the second begins at the phase where
+/// the first ends.
+pub fn touch(before: &table::Row, row: &table::Row) -> bool {
+    before.derived == row.derived
+        && (before.begin, before.end) == (row.begin, row.end)
+        && before.cell_end() == u32::from(row.offset)
+}
+
+/// The table before rows are joined: a row for each field that a role keeps.
+pub fn unjoined(rota: &Rota) -> Table {
     let fields = fields(rota);
     let hold = |hours: HoursRef, held: u64| match hours {
         HoursRef::Always => true,

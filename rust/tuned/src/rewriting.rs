@@ -1,7 +1,8 @@
 //! Rewriting a rota into an area. What a role has in a field depends only on the set of hours that
 //! hold there. The distinct ones of these sets are numbered once, by first field, for all roles; a
-//! role is then derived over them, and not over fields. Rows are counted before that, so that an
-//! area that is too small for them is refused early.
+//! role is then derived over them, and not over fields. Neighbouring fields with the same set are
+//! joined before that, for all roles, so that a role passes over fewer of them. A table that has no
+//! room is refused at the first role at which that shows.
 
 use std::ops::Range;
 
@@ -9,9 +10,8 @@ use reference::rewriting::Written;
 use reference::table::Row;
 use reference::{END, Refusal};
 
-use crate::ensure;
 use crate::rota::{self, Rota};
-use crate::table::{Entry, HEADER_SIZE, encode, entry, header, size};
+use crate::table::{Entry, HEADER_SIZE, RowBytes, encode, entry, header, size};
 
 /// All minutes, or the cycle, divided into eras or cells.
 struct Parts {
@@ -47,16 +47,36 @@ impl Parts {
     }
 }
 
-/// The fields of a rota: each era with each of the cells with which it shares a minute.
-struct Grid {
-    eras: Parts,
-    cells: Parts,
-    /// An era and cells of it, side by side: all fields in their order.
-    runs: Vec<(usize, Range<usize>)>,
+/// Neighbouring fields of one era with the same set of hours. It ends at the phase at which the
+/// next one begins, or with its run.
+#[derive(Clone, Copy)]
+struct Stretch {
+    /// The number of the set.
+    set: u16,
+    /// The phase at which it begins.
+    from: u16,
 }
 
-impl Grid {
-    fn new(rota: &Rota) -> Grid {
+/// An era and cells of it, side by side.
+struct Run {
+    begin: u32,
+    end: u32,
+    stretches: Range<usize>,
+    /// The phase at which the last one ends.
+    to: u16,
+}
+
+/// The fields of a rota: each era with each of the cells with which it shares a minute.
+struct Fields {
+    /// The distinct sets of hours, by first field.
+    sets: Vec<u32>,
+    stretches: Vec<Stretch>,
+    /// All fields in their order. Between two runs of one era lie cells that it leaves out.
+    runs: Vec<Run>,
+}
+
+impl Fields {
+    fn new(rota: &Rota) -> Fields {
         let records = || (0..).zip(rota.records());
         let eras =
             Parts::new(END, || records().map(|(hours, record)| (record.begin, record.end, hours)));
@@ -64,46 +84,44 @@ impl Grid {
             records()
                 .flat_map(|(hours, record)| record.pairs().map(move |(from, to)| (from, to, hours)))
         });
-        let mut grid = Grid { runs: Vec::with_capacity(eras.held.len()), eras, cells };
-        (0..grid.eras.held.len()).for_each(|era| grid.add_runs(rota.cycle, era));
-        grid
+        let most = eras.held.len() * cells.held.len();
+        let mut sets = Numbering::new(most);
+        let mut stretches = Vec::with_capacity(most);
+        let mut runs = Vec::with_capacity(eras.held.len() + 1);
+        for (dates, &by_dates) in eras.cuts.windows(2).zip(&eras.held) {
+            for run in cells_of(&cells.cuts, rota.cycle, dates[0], dates[1]) {
+                let first = stretches.len();
+                let to = cells.cuts[run.end] as u16;
+                let mut last = None;
+                for (&from, &by_pairs) in cells.cuts[run.clone()].iter().zip(&cells.held[run]) {
+                    let held = by_dates & by_pairs;
+                    if last != Some(held) {
+                        stretches.push(Stretch { set: sets.number(held), from: from as u16 });
+                        last = Some(held);
+                    }
+                }
+                let stretches = first..stretches.len();
+                runs.push(Run { begin: dates[0], end: dates[1], stretches, to });
+            }
+        }
+        Fields { sets: sets.keys, stretches, runs }
     }
 
-    /// One run of cells, or two where the remainders of the era's minutes go past the cycle's end
-    /// and leave cells out.
-    fn add_runs(&mut self, cycle: u32, era: usize) {
-        let (from, to) = (self.eras.cuts[era], self.eras.cuts[era + 1]);
-        let cuts = &self.cells.cuts;
-        let all = cuts.len() - 1;
-        if to - from >= cycle {
-            return self.runs.push((era, 0..all));
-        }
-        let phase = from % cycle;
-        let past = phase + (to - from);
-        let first = cuts.partition_point(|&cut| cut <= phase) - 1;
-        if past <= cycle {
-            return self.runs.push((era, first..cuts.partition_point(|&cut| cut < past)));
-        }
-        let again = cuts.partition_point(|&cut| cut + cycle < past);
-        if first <= again {
-            self.runs.push((era, 0..all));
-        } else {
-            self.runs.extend([(era, 0..again), (era, first..all)]);
-        }
+    fn runs(&self) -> impl Iterator<Item = (&Run, &[Stretch])> {
+        self.runs.iter().map(|run| (run, &self.stretches[run.stretches.clone()]))
     }
 
-    /// The hours that hold in each field of a run.
-    #[inline]
-    fn held(&self, (era, cells): &(usize, Range<usize>)) -> impl Iterator<Item = u32> {
-        let by_dates = self.eras.held[*era];
-        self.cells.held[cells.clone()].iter().map(move |by_pairs| by_dates & by_pairs)
-    }
-
-    /// How many fields a role keeps; it may stop once they are more than `limit`.
-    fn rows(&self, role: &Role, limit: usize) -> usize {
+    /// How many rows a role has by its marks; it may stop once they are more than `limit`. A row
+    /// begins where a mark is not 0 and is not that of the stretch before.
+    fn rows(&self, marks: &[u16], limit: usize) -> usize {
         let mut rows = 0;
-        for run in &self.runs {
-            rows += self.held(run).filter(|&held| role.keeps(held)).count();
+        for (_, stretches) in self.runs() {
+            let mut before = 0;
+            for stretch in stretches {
+                let mark = marks[usize::from(stretch.set)];
+                rows += usize::from((mark != 0) & (mark != before));
+                before = mark;
+            }
             if rows > limit {
                 break;
             }
@@ -111,16 +129,49 @@ impl Grid {
         rows
     }
 
-    /// The distinct sets of hours, by first field, and for each field the number of its own.
-    fn sets(&self) -> (Vec<u32>, Vec<u16>) {
-        let fields = self.runs.iter().map(|(_, cells)| cells.len()).sum();
-        let mut distinct = Numbering::new(fields);
-        let mut numbers = Vec::with_capacity(fields);
-        for run in &self.runs {
-            numbers.extend(self.held(run).map(|held| distinct.number(held)));
+    /// Writes these rows; `first` is the number of the role's first derived role.
+    fn write(&self, marks: &[u16], first: u32, mut places: impl FnMut(&Row)) {
+        for (run, stretches) in self.runs() {
+            let mut row = |mark: u16, from: u16, to: u16| {
+                if mark != 0 {
+                    places(&Row {
+                        derived: first + u32::from(mark) - 1,
+                        begin: run.begin,
+                        end: run.end,
+                        offset: from,
+                        length: to - from,
+                    });
+                }
+            };
+            let (mut before, mut from) = (0, 0);
+            for stretch in stretches {
+                let mark = marks[usize::from(stretch.set)];
+                if mark != before {
+                    row(before, from, stretch.from);
+                    (before, from) = (mark, stretch.from);
+                }
+            }
+            row(before, from, run.to);
         }
-        (distinct.keys, numbers)
     }
+}
+
+/// The cells that share a minute with an era: all in one run, or two runs where the remainders of
+/// its minutes go past the cycle's end and leave cells out. The second is often empty.
+fn cells_of(cuts: &[u32], cycle: u32, begin: u32, end: u32) -> impl Iterator<Item = Range<usize>> {
+    let all = cuts.len() - 1;
+    let phase = begin % cycle;
+    let past = phase + (end - begin);
+    let first = cuts.partition_point(|&cut| cut <= phase) - 1;
+    let runs = if end - begin >= cycle {
+        [0..all, 0..0]
+    } else if past <= cycle {
+        [first..cuts.partition_point(|&cut| cut < past), 0..0]
+    } else {
+        let again = cuts.partition_point(|&cut| cut + cycle < past);
+        if first <= again { [0..all, 0..0] } else { [0..again, first..all] }
+    };
+    runs.into_iter().filter(|run| !run.is_empty())
 }
 
 /// What is numbered. Keys are spread by multiplying, and the high bits count.
@@ -148,6 +199,8 @@ impl Key for (u64, u64) {
 /// Numbers keys in the order in which they are first seen.
 struct Numbering<K> {
     keys: Vec<K>,
+    /// Keys before these are of an earlier numbering.
+    first: usize,
     /// One more than a key's number, at the first free place from the one to which it is spread.
     places: Vec<u16>,
     shift: u32,
@@ -159,14 +212,22 @@ impl<K: Key> Numbering<K> {
         let places = (2 * most).next_power_of_two().max(2);
         Numbering {
             keys: Vec::with_capacity(most),
+            first: 0,
             places: vec![0; places],
             shift: 64 - places.ilog2(),
         }
     }
 
-    fn clear(&mut self) {
-        self.keys.clear();
+    /// Begins to number anew, after the keys that there are.
+    fn begin(&mut self) {
+        self.first = self.keys.len();
         self.places.fill(0);
+    }
+
+    /// How many have been numbered.
+    #[inline]
+    fn count(&self) -> usize {
+        self.keys.len() - self.first
     }
 
     #[inline]
@@ -176,10 +237,10 @@ impl<K: Key> Numbering<K> {
             match self.places[place] {
                 0 => {
                     self.keys.push(key);
-                    self.places[place] = self.keys.len() as u16;
-                    return self.keys.len() as u16 - 1;
+                    self.places[place] = self.count() as u16;
+                    return self.count() as u16 - 1;
                 }
-                found if self.keys[usize::from(found) - 1] == key => return found - 1,
+                found if self.keys[self.first + usize::from(found) - 1] == key => return found - 1,
                 _ => place = (place + 1) & (self.places.len() - 1),
             }
         }
@@ -246,16 +307,13 @@ impl Unions {
     }
 }
 
-/// All that a rota says of a role, and what the rewriting has found.
+/// All that a rota says of a role.
 #[derive(Clone, Default)]
 struct Role {
     /// The hours in which it is enabled; none where it always is.
     enabled: u32,
     users: Numbers,
     permissions: Numbers,
-    /// How many rows it has, and the number of its first derived role.
-    rows: usize,
-    first: u32,
 }
 
 impl Role {
@@ -287,102 +345,129 @@ fn roles(rota: &Rota) -> Vec<Role> {
     roles
 }
 
-/// The scratch in which one role after the other is derived.
-struct Deriver {
+/// Derives one role after the other.
+struct Deriver<'a> {
+    sets: &'a [u32],
+    hours: u8,
     users: Unions,
     permissions: Unions,
     known: Numbering<(u64, u64)>,
+    /// For each of the sets of hours 0 where the role does not keep it, else one more than the
+    /// number of its derived role, counted within the role.
+    marks: Vec<u16>,
 }
 
-impl Deriver {
-    /// Adds a mark for each of the sets of hours: 0 where the role does not keep it, else one more
-    /// than the number of its derived role, counted within the role.
-    fn derive(&mut self, role: &Role, hours: u8, sets: &[u32], marks: &mut Vec<u16>) {
-        self.users.fill(&role.users, hours);
-        self.permissions.fill(&role.permissions, hours);
-        self.known.clear();
-        let named = role.named();
-        // Neighbours often differ only in hours that the role does not name.
-        let mut last = None;
-        marks.extend(sets.iter().map(|&held| {
-            let held = held & named;
-            match last {
-                Some((same, mark)) if same == held => mark,
-                _ => {
-                    let mark = if role.keeps(held) { 1 + self.number(held) } else { 0 };
-                    last = Some((held, mark));
-                    mark
-                }
-            }
-        }));
+/// Where a role's derived roles are among those that are known, and its marks.
+struct Found {
+    derived: Range<usize>,
+    marks: Range<usize>,
+}
+
+impl<'a> Deriver<'a> {
+    fn new(sets: &'a [u32], hours: u8) -> Self {
+        Deriver {
+            sets,
+            hours,
+            users: Unions::new(),
+            permissions: Unions::new(),
+            known: Numbering::new(sets.len()),
+            marks: Vec::new(),
+        }
     }
 
-    #[inline]
-    fn number(&mut self, held: u32) -> u16 {
-        self.known.number((self.users.at(held), self.permissions.at(held)))
+    /// Drops what was found for the roles before.
+    fn forget(&mut self) {
+        self.known.keys.clear();
+        self.marks.clear();
+    }
+
+    /// What a role has; none where it has more than so many derived roles.
+    fn derive(&mut self, role: &Role, most: usize) -> Option<Found> {
+        self.users.fill(&role.users, self.hours);
+        self.permissions.fill(&role.permissions, self.hours);
+        self.known.begin();
+        let (start, named) = (self.marks.len(), role.named());
+        self.marks.resize(start + self.sets.len(), 0);
+        // Neighbours often differ only in hours that the role does not name.
+        let mut last = None;
+        for (place, &held) in self.marks[start..].iter_mut().zip(self.sets) {
+            let held = held & named;
+            *place = match last {
+                Some((same, mark)) if same == held => mark,
+                _ if role.keeps(held) => {
+                    let sets = (self.users.at(held), self.permissions.at(held));
+                    1 + self.known.number(sets)
+                }
+                _ => 0,
+            };
+            last = Some((held, *place));
+            if self.known.count() > most {
+                return None;
+            }
+        }
+        let derived = self.known.first..self.known.keys.len();
+        Some(Found { derived, marks: start..self.marks.len() })
     }
 }
 
 /// Rewrites the bytes of a rota. Nothing is written before all of the table is known to fit.
 pub fn rewrite(bytes: &[u8], area: &mut [u8]) -> Result<Written, Refusal> {
+    rewrite_with::<true>(bytes, area)
+}
+
+/// The same, but of what a role is found to have nothing is kept from the count to the writing: as
+/// without a heap, it is derived for each.
+pub fn rewrite_twice(bytes: &[u8], area: &mut [u8]) -> Result<Written, Refusal> {
+    rewrite_with::<false>(bytes, area)
+}
+
+fn rewrite_with<const KEEPS: bool>(bytes: &[u8], area: &mut [u8]) -> Result<Written, Refusal> {
     let rota = Rota::read(bytes)?;
-    let fits = |entries: usize, rows: usize| {
-        ensure(size(entries as u64, rows as u64) <= area.len() as u64, 20)
+    let left = |entries: usize, rows: usize| {
+        area.len().checked_sub(size(entries as u64, rows as u64) as usize).ok_or(20u32)
     };
-    let grid = Grid::new(&rota);
-    let mut roles = roles(&rota);
-    fits(0, 0)?;
-    let mut row_count = 0;
-    for role in &mut roles {
-        role.rows = grid.rows(role, area.len() / 16);
-        row_count += role.rows;
-        fits(0, row_count)?;
-    }
-
-    let (sets, set_of) = grid.sets();
-    let mut deriver = Deriver {
-        users: Unions::new(),
-        permissions: Unions::new(),
-        known: Numbering::new(sets.len()),
-    };
-    let mut entries: Vec<Entry> = Vec::new();
-    let mut marks = Vec::with_capacity(roles.len() * sets.len());
-    for (source, role) in (0..).zip(&mut roles).filter(|(_, role)| role.rows > 0) {
-        role.first = entries.len() as u32;
-        deriver.derive(role, rota.hours, &sets, &mut marks);
-        let sets = deriver.known.keys.iter();
-        entries.extend(sets.map(|&(users, permissions)| entry(source, users, permissions)));
-        fits(entries.len(), row_count)?;
-    }
-
-    let (derived, rows) = (entries.len() as u32, row_count as u32);
-    let length = size(derived.into(), rows.into()) as usize;
-    let (head, body) = area[..length].split_at_mut(HEADER_SIZE);
-    head.copy_from_slice(&header(&rota, derived, rows));
-    let (entry_place, row_place) = body.split_at_mut(size_of_val(&entries[..]));
-    entry_place.copy_from_slice(entries.as_flattened());
-    let (row_place, _) = row_place.as_chunks_mut();
-    let mut places = row_place.iter_mut();
-    let kept = roles.iter().filter(|role| role.rows > 0);
-    for (role, marks) in kept.zip(marks.chunks_exact(sets.len())) {
-        let mut set_of = set_of.iter();
-        for (era, cells) in &grid.runs {
-            let (begin, end) = (grid.eras.cuts[*era], grid.eras.cuts[era + 1]);
-            let edges = grid.cells.cuts[cells.start..=cells.end].windows(2);
-            for (edges, &set) in edges.zip(&mut set_of) {
-                let mark = marks[usize::from(set)];
-                if mark == 0 {
-                    continue;
-                }
-                *places.next().expect("as many places as rows") = encode(&Row {
-                    derived: role.first + u32::from(mark) - 1,
-                    begin,
-                    end,
-                    offset: edges[0] as u16,
-                    length: (edges[1] - edges[0]) as u16,
-                });
-            }
+    let mut room = left(0, 0)?;
+    let fields = Fields::new(&rota);
+    let roles = roles(&rota);
+    let mut deriver = Deriver::new(&fields.sets, rota.hours);
+    let (mut derived, mut rows) = (0, 0);
+    let mut all_found = Vec::with_capacity(roles.len());
+    for role in &roles {
+        if !KEEPS {
+            deriver.forget();
         }
+        // Each derived role has a row at least.
+        let most = room / (size_of::<Entry>() + size_of::<RowBytes>());
+        let found = deriver.derive(role, most).ok_or(20u32)?;
+        derived += found.derived.len();
+        let limit = room / size_of::<RowBytes>();
+        rows += fields.rows(&deriver.marks[found.marks.clone()], limit);
+        room = left(derived, rows)?;
+        all_found.push(found);
     }
-    Ok(Written { derived, rows, length })
+
+    let length = area.len() - room;
+    let (head, body) = area[..length].split_at_mut(HEADER_SIZE);
+    head.copy_from_slice(&header(&rota, derived as u32, rows as u32));
+    let (entry_place, row_place) = body.split_at_mut(derived * size_of::<Entry>());
+    let ((entry_place, _), (row_place, _)) =
+        (entry_place.as_chunks_mut(), row_place.as_chunks_mut());
+    let (mut entry_places, mut row_places) = (entry_place.iter_mut(), row_place.iter_mut());
+    let mut first = 0;
+    for ((source, role), mut found) in (0..).zip(&roles).zip(all_found) {
+        if !KEEPS {
+            deriver.forget();
+            found = deriver.derive(role, usize::MAX).expect("no limit");
+        }
+        let marks = &deriver.marks[found.marks];
+        fields.write(marks, first, |row| {
+            *row_places.next().expect("as many places as rows") = encode(row);
+        });
+        let sets = &deriver.known.keys[found.derived];
+        for (&(users, permissions), place) in sets.iter().zip(&mut entry_places) {
+            *place = entry(source, users, permissions);
+        }
+        first += sets.len() as u32;
+    }
+    Ok(Written { derived: derived as u32, rows: rows as u32, length })
 }

@@ -183,15 +183,17 @@ fn compare_rewritten(case: &mut Case, tally: &mut Tally, rota: &[u8]) {
     let any = case.random.below(2 * size as u32) as usize;
     for size in [size, size - 1, size + 1, 0, any] {
         let filling = case.random.byte();
-        let (mut area, mut expected_area) = (vec![filling; size], vec![filling; size]);
-        let given = tuned::rewriting::rewrite(rota, &mut area);
+        let mut expected_area = vec![filling; size];
         let expected = whole.as_ref().map_err(|&refusal| refusal).and_then(|(written, bytes)| {
             expected_area.get_mut(..bytes.len()).ok_or(20u32)?.copy_from_slice(bytes);
             Ok(*written)
         });
-        tally.add(expected.err().unwrap_or(0));
-        case.same(given, expected, rota, ("area", size));
-        assert!(area == expected_area, "the areas differ: seed {} {}", case.seed, case.number);
+        for rewrite in [tuned::rewriting::rewrite, tuned::rewriting::rewrite_twice] {
+            let mut area = vec![filling; size];
+            tally.add(expected.err().unwrap_or(0));
+            case.same(rewrite(rota, &mut area), expected, rota, ("area", size));
+            assert!(area == expected_area, "the areas differ: seed {} {}", case.seed, case.number);
+        }
     }
 }
 
