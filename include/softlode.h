@@ -137,7 +137,8 @@ softlode_next softlode_table_next(const uint8_t *table, size_t length, uint32_t 
 /*
  * Rewrites a rota to its table, at the start of the output area. Bytes of the area past the table's length stay as they are. 1 to 12, or 20
  * where 16 + 17 * derived + 16 * rows exceeds the size of the area; then the whole area stays as it is. 35212336 bytes are enough for every
- * rota (32 roles, 65 eras and 513 cells at the most), and 65536 for most.
+ * rota (32 roles, 65 eras and 513 cells at the most), and 65536 for most. Neighbouring rows of one derived role and one era that touch are
+ * written as one, and `rows` counts them so; a table in which they are not joined means the same, and is read as well.
  */
 softlode_written softlode_rewrite(const uint8_t *rota, size_t length, uint8_t *area, size_t size);
 

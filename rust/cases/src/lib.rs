@@ -1,11 +1,12 @@
 //! Inputs for the tests: `generate` builds them from the numbers of `random`, `data` reads those
-//! of the files, `worst` has those that take longest, and `case` runs them so that a failing one
-//! can be repeated.
+//! of the files, `joining` has those for rows that touch, `worst` those that take longest, and
+//! `case` runs them so that a failing one can be repeated.
 
 #![forbid(unsafe_code)]
 
 pub mod case;
 pub mod data;
 pub mod generate;
+pub mod joining;
 pub mod random;
 pub mod worst;

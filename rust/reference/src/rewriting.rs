@@ -37,7 +37,7 @@ pub fn cells(rota: &Rota) -> Vec<(u32, u32)> {
 }
 
 /// The first minute of the era whose remainder lies in the cell, if there is one.
-fn first_minute(cycle: u32, era: (u32, u32), cell: (u32, u32)) -> Option<u32> {
+pub fn first_minute(cycle: u32, era: (u32, u32), cell: (u32, u32)) -> Option<u32> {
     let phase = era.0 % cycle;
     let wait = if phase < cell.0 {
         cell.0 - phase
@@ -75,9 +75,13 @@ fn fields(rota: &Rota) -> Vec<Field> {
     fields
 }
 
-/// The table of a rota: neighbouring rows that touch are one.
+/// The table of a rota.
 pub fn table(rota: &Rota) -> Table {
-    let table = unjoined(rota);
+    joined(unjoined(rota))
+}
+
+/// The table with neighbouring rows that touch made one, in runs of any length.
+pub fn joined(table: Table) -> Table {
     let mut rows: Vec<table::Row> = Vec::new();
     for row in table.rows {
         match rows.last_mut() {

@@ -2,15 +2,16 @@
 
 use std::collections::{BTreeMap, BTreeSet, HashSet};
 
-use cases::generate;
+use cases::case::Tally;
 use cases::random::Random;
+use cases::{generate, joining};
 use reference::END;
 use reference::edges::Edges;
 use reference::policy::{Policy, staying_at};
-use reference::rewriting;
+use reference::rewriting::{self, touch};
 use reference::rota::Rota;
 use reference::service::{Call, Lent, Reply, State, serve, step};
-use reference::table::Table;
+use reference::table::{Row, Table};
 
 /// The users that some answer grants something, asked one by one.
 fn holders_by_asking(policy: &dyn Policy, t: u32) -> u64 {
@@ -43,7 +44,8 @@ fn generated_rotas_and_tables_are_well_formed() {
         let rota = match case % 4 {
             0 => generate::small_rota(&mut random),
             1 => generate::rota(&mut random),
-            2 => generate::relay_rota(&mut random),
+            2 if case % 8 == 2 => generate::relay_rota(&mut random),
+            2 => generate::touching_rota(&mut random),
             _ => generate::rota_of(&mut random, &generate::edge_sizes(case % generate::EDGE_SIZES)),
         };
         assert_eq!(Rota::parse(&rota.encode()), Ok(rota), "case {case}");
@@ -222,7 +224,7 @@ fn rewriting_keeps_the_fields_of_its_definition() {
     let mut random = Random::new(4);
     for _ in 0..3_000 {
         let rota = generate::small_rota(&mut random);
-        let table = rewriting::table(&rota);
+        let table = rewriting::unjoined(&rota);
         let mut numbered = 0;
         let rows: Vec<_> = table
             .rows
@@ -242,6 +244,55 @@ fn rewriting_keeps_the_fields_of_its_definition() {
         assert_eq!(different.len(), table.derived.len());
         assert_eq!(rows, rows_by_every_minute(&rota));
     }
+}
+
+/// A joined row is a whole run of rows that touch, and no two of them touch; all else stays.
+#[test]
+fn joined_rows_are_whole_runs() {
+    let mut tally = Tally::new("joined_rows_are_whole_runs");
+    let mut random = Random::new(10);
+    for case in 0..6_000 {
+        let rota = match case % 6 {
+            0 => generate::granting_rota(&mut random),
+            1 => generate::relay_rota(&mut random),
+            2 | 3 => generate::small_rota(&mut random),
+            _ => generate::touching_rota(&mut random),
+        };
+        let (unjoined, table) = (rewriting::unjoined(&rota), rewriting::table(&rota));
+        let runs = unjoined.rows.chunk_by(touch);
+        let whole = |run: &[Row]| {
+            let length = run.iter().map(|row| row.length).sum();
+            Row { length, ..run[0] }
+        };
+        assert_eq!(table.rows, runs.map(whole).collect::<Vec<_>>());
+        assert!(table.rows.windows(2).all(|two| !touch(&two[0], &two[1])));
+        assert_eq!(Table { rows: unjoined.rows.clone(), ..table.clone() }, unjoined);
+        tally.add(0);
+        joining::count(&mut tally, &unjoined, &table);
+    }
+    tally.reached([0]).also(&joining::REACHED);
+}
+
+/// At each minute of some cycles on both sides of every era's border.
+#[test]
+fn joined_and_unjoined_tables_enable_the_same() {
+    let mut tally = Tally::new("joined_and_unjoined_tables_enable_the_same");
+    let mut random = Random::new(11);
+    for _ in 0..2_000 {
+        let rota = joining::short_rota(&mut random);
+        let (unjoined, table) = (rewriting::unjoined(&rota), rewriting::table(&rota));
+        for table in [&unjoined, &table] {
+            assert_eq!(Table::parse(&table.encode()), Ok(table.clone()));
+        }
+        tally.add(0);
+        joining::count(&mut tally, &unjoined, &table);
+        for t in joining::minutes(&rota) {
+            assert_eq!(joining::enabled(&table, t), joining::enabled(&unjoined, t));
+            same_answers(&table, &unjoined, t);
+            same_answers(&table, &rota, t);
+        }
+    }
+    tally.reached([0]).also(&joining::REACHED);
 }
 
 fn random_call(random: &mut Random, rota: &Rota, now: u32) -> Call {

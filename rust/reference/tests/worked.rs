@@ -1,8 +1,10 @@
 //! The worked examples: the small rota, its table and listing, and the limits.
 
-use cases::data;
+use cases::generate::{Sets, fine_rota};
+use cases::random::Random;
+use cases::{data, joining};
 use reference::END;
-use reference::hours::{Hours, HoursRef, Pair};
+use reference::hours::{Hours, HoursRef};
 use reference::listing;
 use reference::policy::{Policy, question};
 use reference::rewriting::{self, rewrite};
@@ -40,21 +42,62 @@ fn small_rota_rewrites_to_its_table() {
     assert_eq!(Table::parse(&data::small_table()), Ok(table));
 }
 
+/// Of the 12 rows of its fields four are joined to the one before.
 #[test]
-fn small_rota_needs_259_bytes() {
+fn small_rota_has_8_rows() {
+    let (unjoined, table) = (rewriting::unjoined(&small()), rewriting::table(&small()));
+    assert_eq!((unjoined.rows.len(), unjoined.encode().len()), (12, 259));
+    let rows: Vec<_> = table
+        .rows
+        .iter()
+        .map(|row| (row.derived, row.begin, row.end, row.offset, row.length))
+        .collect();
+    let expected = [
+        (0, 0, 10, 0, 4),
+        (0, 0, 10, 6, 2),
+        (0, 10, 20, 0, 2),
+        (1, 10, 20, 2, 2),
+        (2, 10, 20, 4, 2),
+        (1, 10, 20, 6, 1),
+        (0, 10, 20, 7, 1),
+        (2, 20, 40, 2, 5),
+    ];
+    assert_eq!(rows, expected);
+    assert_eq!(table.derived, unjoined.derived);
+}
+
+#[test]
+fn small_rota_needs_195_bytes() {
     let rota = data::small_rota();
     let mut area = vec![0xa5; 300];
     let written = rewrite(&rota, &mut area).unwrap();
-    assert_eq!((written.derived, written.rows, written.length), (3, 12, 259));
-    assert_eq!(area[..259], data::small_table());
-    assert!(area[259..].iter().all(|&byte| byte == 0xa5), "bytes past the length stay");
+    assert_eq!((written.derived, written.rows, written.length), (3, 8, 195));
+    assert_eq!(area[..195], data::small_table());
+    assert!(area[195..].iter().all(|&byte| byte == 0xa5), "bytes past the length stay");
 
-    assert!(rewrite(&rota, &mut [0; 259]).is_ok());
-    let mut area = vec![0xa5; 258];
+    for size in [195, 196, 258, 259] {
+        assert!(rewrite(&rota, &mut vec![0; size]).is_ok());
+    }
+    let mut area = vec![0xa5; 194];
     assert_eq!(rewrite(&rota, &mut area), Err(20));
     assert!(area.iter().all(|&byte| byte == 0xa5), "a refusal writes nothing");
     assert_eq!(rewrite(&rota, &mut []), Err(20));
     assert_eq!(rewrite(&rota[..53], &mut []), Err(9), "the rota's refusals come first");
+}
+
+/// Runs of any length; not over a cell without a minute, across eras, round the cycle's end, and not
+/// rows of two derived roles.
+#[test]
+fn rows_that_touch_are_one() {
+    for (name, worked) in joining::all_worked() {
+        assert_eq!(Rota::parse(&worked.rota.encode()), Ok(worked.rota.clone()), "{name}");
+        let (unjoined, table) = (rewriting::unjoined(&worked.rota), rewriting::table(&worked.rota));
+        assert_eq!((table.derived.len(), &table.rows), (worked.derived, &worked.rows), "{name}");
+        assert_eq!(table.derived, unjoined.derived, "{name}");
+        for table in [table, unjoined] {
+            assert_eq!(Table::parse(&table.encode()), Ok(table), "{name}");
+        }
+    }
 }
 
 #[test]
@@ -68,17 +111,8 @@ fn listing_refusals() {
     assert_eq!(listing::program(&[]), "refused 1\n");
     assert_eq!(listing::program(&[0; 8_192]), "refused 2\n");
     assert_eq!(listing::program(&[0; 8_193]), "refused 9\n");
-    // 16 + 17 + 16 × 4,096 bytes are over the area: 64 eras of 64 cells and more.
-    let mut large = small();
-    large.cycle = 2_000;
-    large.hours =
-        (0..32).map(|i| Hours::new(4_000 * (2 * i + 1), 4_000 * (2 * i + 2), &[])).collect();
-    for (i, record) in large.hours.iter_mut().enumerate() {
-        record.pairs = vec![Pair { offset: 60 * i as u16 + 1, length: 30 }];
-    }
-    large.user_rows = vec![Row::new(0, 0, HoursRef::Always)];
-    large.permission_rows = vec![Row::new(0, 0, HoursRef::Always)];
-    assert_eq!(rewriting::table(&large).rows.len(), 65 * 65);
+    let large = fine_rota(&mut Random::new(1), 32, 8, 1, Sets::Many);
+    assert!(rewriting::table(&large).rows.len() >= 4_096);
     assert_eq!(listing::program(&large.encode()), "refused 20\n");
 }
 
@@ -269,7 +303,7 @@ fn a_field_without_a_minute_is_not_kept() {
         user_rows: vec![Row::new(0, 0, HoursRef::Always)],
         ..small()
     };
-    let table = rewriting::table(&rota);
+    let table = rewriting::unjoined(&rota);
     assert!(rewriting::eras(&rota).contains(&(3, 5)));
     assert!(rewriting::cells(&rota).contains(&(6, 8)));
     let kept = |begin, offset| {
@@ -343,9 +377,10 @@ fn rota_limits() {
     assert_eq!(read(full), Err(7));
 }
 
+/// On the table of S with its 12 rows, which are not joined.
 #[test]
 fn table_limits() {
-    let table = rewriting::table(&small());
+    let table = rewriting::unjoined(&small());
     let read = |table: &Table| Table::parse(&table.encode()).map(|_| ());
     let changed = |change: &dyn Fn(&mut Table)| {
         let mut table = table.clone();

@@ -138,12 +138,12 @@ fn a_refused_call_leaves_the_record() {
 #[test]
 fn a_refused_rewriting_leaves_the_area() {
     let rota = Rota::read(SMALL).unwrap();
-    let mut area = [0xa5; 258];
+    let mut area = [0xa5; 194];
     assert_eq!(rota.rewrite(&mut area), Err(Refusal::AREA_TOO_SMALL));
-    assert_eq!(area, [0xa5; 258]);
-    let mut area = [0xa5; 260];
+    assert_eq!(area, [0xa5; 194]);
+    let mut area = [0xa5; 196];
     assert_eq!(rota.rewrite(&mut area).unwrap().bytes, SMALL_TABLE);
-    assert_eq!(area[259], 0xa5);
+    assert_eq!(area[195], 0xa5);
     assert_eq!(Table::read(&area), Err(Refusal::TABLE_LENGTH), "not the whole area");
 }
 
@@ -219,6 +219,6 @@ fn stack_of_every_other_call() {
         told
     });
     let calls = [5, 0, 0, 5, 0].map(Ok);
-    assert_eq!(told[..3], [Ok(20), Ok(293), Ok(0)]);
+    assert_eq!(told[..3], [Ok(20), Ok(239), Ok(0)]);
     assert_eq!((&told[3..8], &told[8..]), (&calls[..], &calls[..]));
 }

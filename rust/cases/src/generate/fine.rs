@@ -10,8 +10,11 @@ use crate::random::Random;
 /// What the roles have in the fields of a fine rota.
 #[derive(Clone, Copy, Debug, PartialEq, Eq)]
 pub enum Sets {
-    /// Each role has the same users and permissions always: one derived role for each.
+    /// Each role has the same users and permissions always: one derived role for each, and one row
+    /// for each era.
     Same,
+    /// One user of each role follows one of the hours: rows are joined over many cells.
+    Few,
     /// Each role's users and permissions follow most of the hours: thousands of derived roles.
     Many,
 }
@@ -27,7 +30,8 @@ fn shuffled(random: &mut Random, count: u32) -> Vec<u32> {
 
 /// A rota in which every begin and end cuts an era and every edge of a pair a cell:
 /// 2 × hours + 1 eras, all longer than the cycle, and 2 × hours × pairs + 1 cells.
-/// Each role keeps every field, so the table has a row for each role, era and cell.
+/// Each role keeps every field, so there is a row for each role, era and cell before rows that touch
+/// are joined.
 /// `pairs` are those of one record. With 32 hours of 8 pairs and 32 roles all is at its limit.
 pub fn fine_rota(random: &mut Random, hours: u32, pairs: u32, roles: u32, sets: Sets) -> Rota {
     let cycle = LIMITS.cycle;
@@ -66,6 +70,7 @@ fn with_roles(hours: Vec<Hours>, roles: u32, sets: Sets) -> Rota {
             role: role as u8,
             hours: match sets {
                 Sets::Many if i > 0 => HoursRef::Numbered(((from + i) % count) as u8),
+                Sets::Few if from + i == 1 => HoursRef::Numbered((role % count) as u8),
                 _ => HoursRef::Always,
             },
         };
@@ -145,6 +150,25 @@ pub fn most_sets_cuts(random: &mut Random) -> (Vec<u8>, Vec<u8>) {
     }
     edges.sort();
     (eras, edges.into_iter().map(|(_, number)| number).collect())
+}
+
+/// The most rows, joined, that were found: one record lasts through all eras but the first and the
+/// last and has nearly all pairs, so that hardly two neighbouring cells are alike. The others last
+/// one within the other, with one pair each. Every role names all but two of the records.
+pub fn most_rows_rota() -> Rota {
+    // Record 1 is the long one; no row names 0 and 16.
+    let others = longest_first().into_iter().skip(1);
+    let eras: Vec<u8> = [1].into_iter().chain(others.clone()).collect();
+    let eras = eras.iter().chain(eras.iter().rev()).copied().collect::<Vec<u8>>();
+    let mut cells: Vec<u8> = others.clone().collect();
+    let pairs = LIMITS.pairs as usize - cells.len();
+    cells.extend(others.rev());
+    // The long record has its edges before and after each of the others', and most in the middle.
+    let (before, after) = cells.split_at(cells.len() / 2);
+    let between = |cuts: &[u8]| -> Vec<u8> { cuts.iter().flat_map(|&cut| [1, cut]).collect() };
+    let middle = vec![1; 2 * pairs - cells.len()];
+    let cells = [between(before), middle, between(after)].concat();
+    with_roles(cut_hours(LIMITS.hours as u8, &eras, &cells), LIMITS.roles, Sets::Many)
 }
 
 /// Everything at its limit, and more derived roles than by equal shares.

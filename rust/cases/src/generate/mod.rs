@@ -11,12 +11,14 @@ mod table;
 mod weekly;
 
 pub use calls::{call, edges_near_spans, jump, jumping_call, next_edge, state};
-pub use fine::{Sets, cut_hours, fine_rota, longest_first, most_sets_cuts, most_sets_rota};
+pub use fine::{
+    Sets, cut_hours, fine_rota, longest_first, most_rows_rota, most_sets_cuts, most_sets_rota,
+};
 pub use hours::{hours, hours_fault, room};
 pub use relay::{dense_table, relay_rota, relay_table};
 pub use rota::{
     EDGE_SIZES, LIMITS, Sizes, damaged_rota, edge_sizes, granting_rota, rota, rota_minute, rota_of,
-    small_rota, with_unused_hours,
+    small_rota, touching_rota, with_unused_hours,
 };
 pub use sized::rota_with_table;
 pub use table::{damaged_table, huge_counts, small_table, table, table_minute};

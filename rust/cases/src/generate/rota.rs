@@ -1,6 +1,6 @@
 //! Rotas, well formed and damaged.
 
-use reference::hours::HoursRef;
+use reference::hours::{Hours, HoursRef};
 use reference::rota::{Rota, Row};
 
 use super::{any_fault, count, cycle, hours, hours_fault, minute, put, room};
@@ -150,6 +150,20 @@ pub fn with_unused_hours(random: &mut Random, rota: &Rota) -> Rota {
             pairs += more as usize;
             rota.hours.push(hours(random, rota.cycle, more));
         }
+    }
+    rota
+}
+
+/// A small rota in which rows touch often: most of its hours do nothing but cut, and last for no
+/// longer than a cycle, so that eras leave cells out.
+pub fn touching_rota(random: &mut Random) -> Rota {
+    let mut rota = small_rota(random);
+    let cycle = rota.cycle;
+    for _ in 0..random.between(1, 4) {
+        let pairs = random.between(1, room(cycle).min(3));
+        let begin = random.below(3 * u32::from(cycle));
+        let end = begin + random.between(1, cycle.into());
+        rota.hours.push(Hours { begin, end, ..hours(random, cycle, pairs) });
     }
     rota
 }

@@ -6,28 +6,33 @@ use reference::rota::{Rota, Row};
 
 use super::LIMITS;
 
-/// A rota whose table has so many derived roles, at most 32, and so many rows, at most 513 for
-/// each. Each role has one derived role, and keeps every cell or all but the last; there is one
-/// era, and every minute of the cycle is a cell.
+/// A rota whose table has so many derived roles, at most 32, and so many rows, at most 600 for
+/// each, none of which touch. Each role has one derived role, which is enabled at every odd minute
+/// of the cycle in two eras, and in the third until some minute of it.
 pub fn rota_with_table(derived: u32, rows: u32) -> Rota {
-    let cells = rows.div_ceil(derived);
-    assert!(derived <= LIMITS.roles && (3..=2 * LIMITS.pairs - 1).contains(&cells));
-    // Every odd minute of the cycle, and all of it but the last minute.
-    let odd: Vec<(u16, u16)> = (1..cells as u16 - 1).step_by(2).map(|offset| (offset, 1)).collect();
-    let hours = vec![Hours::new(0, END, &odd), Hours::new(0, END, &[(0, cells as u16 - 1)])];
-    let shorter = derived * cells - rows;
-    let given = |number: u8| -> Vec<Row> {
-        (0..derived as u8).map(|role| Row::new(number, role, HoursRef::Always)).collect()
+    let of_role = rows.div_ceil(derived);
+    assert!(derived <= LIMITS.roles && (9..=600).contains(&of_role));
+    let odd_minutes = of_role.div_ceil(3) as u16;
+    let last = of_role as u16 - 2 * odd_minutes;
+    let odd: Vec<(u16, u16)> = (0..odd_minutes).map(|i| (2 * i + 1, 1)).collect();
+    // The hours of the first two eras, of the last two until `last` odd minutes, and until one less.
+    let until = |minutes: u16| Hours::new(1_000_000, END, &[(0, 2 * minutes)]);
+    let two_eras = Hours::new(0, 2_000_000, &[(0, 2 * odd_minutes)]);
+    let hours = vec![Hours::new(0, END, &odd), two_eras, until(last), until(last - 1)];
+    let shorter = derived * of_role - rows;
+    let user_rows = |role: u8| {
+        let third = if u32::from(role) < shorter { 3 } else { 2 };
+        [1, third].map(|hours| Row::new(1, role, HoursRef::Numbered(hours)))
     };
     Rota {
-        cycle: cells as u16,
+        cycle: 2 * odd_minutes,
         hours,
         users: 2,
         permissions: 3,
-        roles: (0..derived)
-            .map(|role| if role < shorter { HoursRef::Numbered(1) } else { HoursRef::Always })
+        roles: vec![HoursRef::Numbered(0); derived as usize],
+        user_rows: (0..derived as u8).flat_map(user_rows).collect(),
+        permission_rows: (0..derived as u8)
+            .map(|role| Row::new(2, role, HoursRef::Always))
             .collect(),
-        user_rows: given(1),
-        permission_rows: given(2),
     }
 }
