@@ -179,7 +179,8 @@ pub fn one_bucket() -> Cut {
 }
 
 /// A table has no room, and that shows late: every role but the last has users in nearly all
-/// fields, and permissions in a single one.
+/// fields, and permissions in a single one. The last has both in all fields, and they follow nearly
+/// all hours, so that its rows are not joined to few.
 pub fn late_refusal() -> Cut {
     const LAST: u8 = 31;
     // All begin, the last holds in one era, and all end, in the other order; likewise in the
@@ -189,10 +190,11 @@ pub fn late_refusal() -> Cut {
     };
     let pauses = LIMITS.pairs - 32;
     let paused = (0..pauses).flat_map(|i| [(i % 31) as u8; 2]).collect();
-    let rows = |hours: fn(u32) -> HoursRef| -> Vec<Row> {
-        let row = |i: u32| match (i / 16) as u8 {
-            LAST => Row::new((i % 16) as u8, LAST, HoursRef::Always),
-            role => Row::new((i % 16) as u8, role, hours(i % 16)),
+    let rows = |hours: fn(u8) -> HoursRef, of_last: fn(u8) -> HoursRef| -> Vec<Row> {
+        let row = |i: u32| match ((i / 16) as u8, (i % 16) as u8) {
+            (LAST, 0) => Row::new(0, LAST, HoursRef::Always),
+            (LAST, number) => Row::new(number, LAST, of_last(number)),
+            (role, number) => Row::new(number, role, hours(number)),
         };
         (0..LIMITS.user_rows).map(row).collect()
     };
@@ -201,8 +203,11 @@ pub fn late_refusal() -> Cut {
         eras: cuts(Vec::new()),
         cells: cuts(paused),
         roles: vec![HoursRef::Always; LIMITS.roles as usize],
-        user_rows: rows(|i| HoursRef::Numbered(i as u8)),
-        permission_rows: rows(|_| HoursRef::Numbered(LAST)),
+        user_rows: rows(HoursRef::Numbered, HoursRef::Numbered),
+        permission_rows: rows(
+            |_| HoursRef::Numbered(LAST),
+            |number| HoursRef::Numbered(15 + number),
+        ),
     }
 }
 

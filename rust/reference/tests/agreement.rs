@@ -159,7 +159,7 @@ fn minutes_that_stand_for_all_of_a_jump() {
             0 => generate::small_table(&mut random),
             1 => generate::relay_table(&mut random),
             2 => generate::dense_table(&mut random),
-            _ => rewriting::table(&rota),
+            _ => generate::table_of_rota(&mut random, &rota),
         };
         same_staying(&mut random, &table, &Edges::of_table(&table), &mut on_tables);
     }

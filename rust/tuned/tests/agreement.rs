@@ -4,7 +4,7 @@
 use cases::case::{Case, Tally, cases};
 use cases::generate::{self, Sets};
 use cases::random::Random;
-use cases::{data, worst, worst::jumps};
+use cases::{data, joining, worst, worst::jumps};
 use reference::edges::Edges;
 use reference::policy::{Policy, question};
 use reference::rota::Rota;
@@ -82,9 +82,10 @@ fn compare_table(case: &mut Case, tally: &mut Tally, bytes: &[u8], near: &Table)
 }
 
 fn any_rota(random: &mut Random) -> Rota {
-    match random.below(4) {
+    match random.below(6) {
         0 => generate::rota(random),
         1 => generate::granting_rota(random),
+        2 | 3 => generate::touching_rota(random),
         _ => generate::small_rota(random),
     }
 }
@@ -92,7 +93,10 @@ fn any_rota(random: &mut Random) -> Rota {
 fn any_table(random: &mut Random) -> Table {
     match random.below(5) {
         0 => generate::table(random),
-        1 => rewriting::table(&generate::small_rota(random)),
+        1 => {
+            let rota = generate::touching_rota(random);
+            generate::table_of_rota(random, &rota)
+        }
         2 => generate::dense_table(random),
         _ => generate::small_table(random),
     }
@@ -147,7 +151,8 @@ fn tables() {
     tally.reached((0..=0).chain(21..=28).chain(33..=35));
 }
 
-/// Into areas of the table's size, one less, one more, none, and any.
+/// Into areas of the table's size, one less, one more, none, and any; where rows are joined also of
+/// the size that they would need unjoined, and one less.
 #[test]
 fn rewritten() {
     let mut tally = Tally::new("tuned rewritten");
@@ -162,26 +167,34 @@ fn rewritten() {
     });
     let mut case = Case::new("tuned finest", 0);
     compare_rewritten(&mut case, &mut tally, &data::small_rota());
-    for (roles, sets) in [(1, Sets::Many), (2, Sets::Many), (32, Sets::Same)] {
+    for (roles, sets) in [(1, Sets::Many), (2, Sets::Many), (32, Sets::Few), (32, Sets::Same)] {
         let rota = generate::fine_rota(&mut case.random, 32, 8, roles, sets);
         compare_rewritten(&mut case, &mut tally, &rota.encode());
     }
+    compare_rewritten(&mut case, &mut tally, &generate::most_rows_rota().encode());
     for (_, cut) in worst::cuts() {
         compare_rewritten(&mut case, &mut tally, &cut.rota().encode());
     }
-    tally.reached((0..=12).chain([20]));
+    for (_, worked) in joining::all_worked() {
+        compare_rewritten(&mut case, &mut tally, &worked.rota.encode());
+    }
+    tally.reached((0..=12).chain([20])).also(&joining::REACHED);
 }
 
 fn compare_rewritten(case: &mut Case, tally: &mut Tally, rota: &[u8]) {
+    let mut unjoined_size = 16;
     let whole = Rota::parse(rota).map(|rota| {
-        let table = rewriting::table(&rota);
+        let unjoined = rewriting::unjoined(&rota);
+        let table = rewriting::joined(unjoined.clone());
+        joining::count(tally, &unjoined, &table);
+        unjoined_size = unjoined.encode().len();
         let (derived, rows) = (table.derived.len() as u32, table.rows.len() as u32);
         let bytes = table.encode();
         (rewriting::Written { derived, rows, length: bytes.len() }, bytes)
     });
     let size = whole.as_ref().map_or(16, |(_, bytes)| bytes.len());
     let any = case.random.below(2 * size as u32) as usize;
-    for size in [size, size - 1, size + 1, 0, any] {
+    for size in [size, size - 1, size + 1, 0, any, unjoined_size, unjoined_size - 1] {
         let filling = case.random.byte();
         let mut expected_area = vec![filling; size];
         let expected = whole.as_ref().map_err(|&refusal| refusal).and_then(|(written, bytes)| {
@@ -195,6 +208,34 @@ fn compare_rewritten(case: &mut Case, tally: &mut Tally, rota: &[u8]) {
             assert!(area == expected_area, "the areas differ: seed {} {}", case.seed, case.number);
         }
     }
+}
+
+/// At each minute of some cycles on both sides of every era's border.
+#[test]
+fn joined_and_unjoined_tables() {
+    let mut tally = Tally::new("tuned joined_and_unjoined_tables");
+    cases("tuned joined_and_unjoined_tables", 1_000, |case| {
+        let rota = joining::short_rota(&mut case.random);
+        let unjoined = rewriting::unjoined(&rota);
+        let table = rewriting::joined(unjoined.clone());
+        tally.add(0);
+        joining::count(&mut tally, &unjoined, &table);
+        let bytes = [unjoined.encode(), table.encode()];
+        let [quick_unjoined, quick] =
+            [&bytes[0], &bytes[1]].map(|bytes| tuned::table::Table::read(bytes).expect("accepted"));
+        for t in joining::minutes(&rota) {
+            case.same(quick.holders(t), quick_unjoined.holders(t), &bytes[0], t);
+            for user in 0..rota.users() {
+                for permission in 0..rota.permissions() {
+                    let expected = table.answer(user, permission, t);
+                    let ask = |table: &tuned::table::Table| table.answer(user, permission, t);
+                    let given = (ask(&quick), ask(&quick_unjoined));
+                    case.same(given, (expected, expected), &bytes[0], (user, permission, t));
+                }
+            }
+        }
+    });
+    tally.reached([0]).also(&joining::REACHED);
 }
 
 /// Who stays in a jump: jumps of all lengths, from where something changes or beside it.
@@ -257,7 +298,10 @@ fn jumps_on_tables() {
     cases("tuned jumps_on_tables", 20_000, |case| {
         let table = match case.random.below(8) {
             0 => any_table(&mut case.random),
-            1 | 2 => rewriting::table(&generate::relay_rota(&mut case.random)),
+            1 | 2 => {
+                let rota = generate::relay_rota(&mut case.random);
+                generate::table_of_rota(&mut case.random, &rota)
+            }
             3 | 4 => generate::relay_table(&mut case.random),
             _ => generate::dense_table(&mut case.random),
         };
@@ -279,9 +323,11 @@ fn worst_rotas_to_jump_over() {
         case.same(rota.staying(everyone, END / 8 * 7, END - 1), everyone, &[], name);
         let quick = tuned::rota::Rota::read(&bytes).expect("accepted");
         case.same(quick.staying(everyone, 0, END - 1), everyone, &[], name);
-        let table = rewriting::table(&rota).encode();
-        let quick = tuned::table::Table::read(&table).expect("accepted");
-        case.same(quick.staying(everyone, 0, END - 1), everyone, &[], (name, "its table"));
+        let unjoined = rewriting::unjoined(&rota);
+        for table in [unjoined.encode(), rewriting::joined(unjoined).encode()] {
+            let quick = tuned::table::Table::read(&table).expect("accepted");
+            case.same(quick.staying(everyone, 0, END - 1), everyone, &[], (name, "its table"));
+        }
     }
 }
 

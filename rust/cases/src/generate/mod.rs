@@ -21,7 +21,7 @@ pub use rota::{
     small_rota, touching_rota, with_unused_hours,
 };
 pub use sized::rota_with_table;
-pub use table::{damaged_table, huge_counts, small_table, table, table_minute};
+pub use table::{damaged_table, huge_counts, small_table, table, table_minute, table_of_rota};
 pub use weekly::weekly_rota;
 
 use reference::END;

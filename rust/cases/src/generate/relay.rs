@@ -6,9 +6,9 @@ use std::ops::Range;
 use reference::hours::{Hours, HoursRef, Pair};
 use reference::rota::{Rota, Row};
 use reference::table::{self, DerivedRole, Table};
-use reference::{END, rewriting, set};
+use reference::{END, set};
 
-use super::{LIMITS, distinct};
+use super::{LIMITS, distinct, table_of_rota};
 use crate::random::Random;
 
 /// Mostly so short that a few cycles can be gone through minute by minute.
@@ -124,7 +124,8 @@ pub fn relay_rota(random: &mut Random) -> Rota {
 /// The table of such a rota, with eras of single roles divided further, so that eras of different
 /// roles overlap freely; some without a row here and there.
 pub fn relay_table(random: &mut Random) -> Table {
-    let mut table = rewriting::table(&relay_rota(random));
+    let rota = relay_rota(random);
+    let mut table = table_of_rota(random, &rota);
     let source = |row: &table::Row| table.derived[row.derived as usize].source;
     let mut rows: Vec<table::Row> = Vec::new();
     for of_role in table.rows.chunk_by(|a, b| source(a) == source(b)) {

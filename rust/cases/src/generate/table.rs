@@ -1,8 +1,8 @@
 //! Tables, well formed and damaged.
 
-use reference::END;
-use reference::set;
+use reference::rota::Rota;
 use reference::table::{DerivedRole, Row, Table};
+use reference::{END, rewriting, set};
 
 use super::rota::sizes;
 use super::{any_fault, distinct, minute, put, span};
@@ -115,6 +115,13 @@ fn table_of(
         derived,
         rows,
     }
+}
+
+/// The table of a rota, as it is rewritten, or before rows that touch are joined, as a sender may
+/// have it.
+pub fn table_of_rota(random: &mut Random, rota: &Rota) -> Table {
+    let unjoined = rewriting::unjoined(rota);
+    if random.one_in(2) { unjoined } else { rewriting::joined(unjoined) }
 }
 
 /// A minute at which a table's answers may change.

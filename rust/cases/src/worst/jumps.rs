@@ -92,8 +92,8 @@ fn handed_on_by(hours: Vec<Hours>, others: bool) -> Rota {
     }
 }
 
-/// Its table has the most rows that there can be, 1,067,040. Each role has two users of its own, so
-/// that all roles count at every minute.
+/// Before rows are joined its table has the most that there can be, 1,067,040. Each role has two
+/// users of its own, so that all roles count at every minute.
 pub fn every_role_counts() -> Rota {
     let row = |i: u32| Row::new((i % 64) as u8, (i % 64 / 2) as u8, HoursRef::Always);
     let fine = fine_rota(&mut Random::new(2), 32, 8, 32, Sets::Same);
