@@ -25,7 +25,7 @@ const fn kind(name: &'static str, share: u64, compare: fn(&mut Case, &mut Tally)
     Kind { name, share, compare }
 }
 
-const KINDS: [Kind; 22] = [
+const KINDS: [Kind; 23] = [
     kind("rota well formed", 170, rota::well_formed),
     kind("rota several faults", 200, rota::several_faults),
     kind("rota any bytes", 50, rota::any_bytes),
@@ -35,7 +35,8 @@ const KINDS: [Kind; 22] = [
     kind("table several faults", 150, table::several_faults),
     kind("table huge counts", 10, table::huge_counts),
     kind("rewriting any size", 3, rewriting::any_size),
-    kind("rewriting small", 30, rewriting::small),
+    kind("rewriting small", 28, rewriting::small),
+    kind("rewriting joined and unjoined", 2, rewriting::joined_and_unjoined),
     kind("rewriting unused hours", 7, rewriting::unused_hours),
     kind("rewriting damaged", 20, rewriting::damaged),
     kind("service list", 10, service::list),

@@ -159,8 +159,10 @@ fn largest_rotas() {
     let (mut case, mut tally) = (Case::new(name, 0), Tally::new(name));
     let random = &mut case.random;
     let mut rotas = vec![
-        generate::fine_rota(random, 8, 7, 2, Sets::Same),
-        generate::fine_rota(random, 8, 7, 2, Sets::Many),
+        generate::fine_rota(random, 32, 8, 32, Sets::Same),
+        generate::fine_rota(random, 32, 8, 32, Sets::Few),
+        generate::fine_rota(random, 8, 8, 3, Sets::Many),
+        generate::fine_rota(random, 8, 8, 4, Sets::Many),
         generate::fine_rota(random, 32, 8, 1, Sets::Many),
     ];
     rotas.extend(worst::cuts().iter().map(|(_, cut)| cut.rota()));
@@ -175,6 +177,7 @@ fn any_rota(random: &mut Random) -> Rota {
     match random.below(8) {
         0 => generate::rota(random),
         1 | 2 => generate::granting_rota(random),
+        3 | 4 => generate::touching_rota(random),
         _ => generate::small_rota(random),
     }
 }

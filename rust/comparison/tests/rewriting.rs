@@ -3,11 +3,13 @@
 use std::time::Instant;
 
 use cases::case::{Case, Tally, cases, print, tallied};
-use cases::generate::{Sets, fine_rota, most_sets_rota};
+use cases::generate::{Sets, fine_rota, most_rows_rota, most_sets_rota};
+use cases::joining::{self, Worked};
 use cases::{data, generate, worst};
 use comparison::compare::rewriting::{self, Lent, compare, compare_areas};
 use comparison::expected::rewriting::Whole;
 use comparison::ffi;
+use comparison::ffi::rewriting::Rewritten;
 use reference::END;
 use reference::hours::{Hours, HoursRef};
 use reference::rota::{Rota, Row};
@@ -22,22 +24,28 @@ fn table_of(rota: &Rota) -> Table {
     Table::parse(&ffi::rewriting::table(&rota.encode())).expect("a rewritten table is read")
 }
 
-/// The small rota's table is its file, and needs 259 bytes.
+/// The small rota's table is its file, and needs 195 bytes: 8 rows, of which unjoined there are 12,
+/// in 259 bytes.
 #[test]
 fn small_rota() {
     assert_eq!(ffi::rewriting::table(&data::small_rota()), data::small_table());
-    assert_eq!(data::small_table().len(), 259);
+    assert_eq!((table_of(&small()).rows.len(), data::small_table().len()), (8, 195));
     let mut tally = Tally::new("small_rota");
     let mut case = Case::new("small_rota", 0);
     let lent = Lent::new(data::small_rota());
     for size in 0..600 {
         let refusal = compare(&mut case, &mut tally, &lent, size);
-        assert_eq!(refusal, if size < 259 { 20 } else { 0 }, "area {size}");
+        assert_eq!(refusal, if size < 195 { 20 } else { 0 }, "area {size}");
     }
+    let sizes = [194, 195, 196, 258, 259];
+    let given = sizes.map(|size| ffi::rewriting::rewrite(&lent.bytes, &mut vec![0; size]));
+    let written = Rewritten { refusal: 0, derived: 3, rows: 8, length: 195 };
+    let refused = Rewritten { refusal: 20, ..Rewritten::default() };
+    assert_eq!(given, [refused, written, written, written, written]);
     assert_eq!(compare(&mut case, &mut tally, &lent, 1 << 20), 0);
     // A rota that is refused stays so, whether a table would fit or not.
     let cut = Lent::new(lent.bytes[..53].to_vec());
-    for size in [0, 258, 259, 600] {
+    for size in [0, 194, 195, 600] {
         assert_eq!(compare(&mut case, &mut tally, &cut, size), 9);
     }
     tally.reached([0, 9, 20]);
@@ -54,12 +62,56 @@ fn a_field_without_a_minute_is_not_kept() {
         ..small()
     };
     let table = table_of(&rota);
-    let fields: Vec<_> = table.rows.iter().map(|row| (row.begin, row.end, row.offset)).collect();
-    assert_eq!(fields, [(0, 3, 0), (3, 5, 0), (5, END, 0), (5, END, 6), (5, END, 8)]);
+    let rows: Vec<_> =
+        table.rows.iter().map(|row| (row.begin, row.end, row.offset, row.length)).collect();
+    assert_eq!(rows, [(0, 3, 0, 6), (3, 5, 0, 6), (5, END, 0, 10)]);
     assert_eq!(table.derived.len(), 1);
     let mut tally = Tally::new("a_field_without_a_minute_is_not_kept");
     let mut case = Case::new("a_field_without_a_minute_is_not_kept", 0);
     compare_areas(&mut case, &mut tally, &Lent::new(rota.encode()));
+}
+
+/// The rows of a worked rota are these, and its area is judged by them.
+fn compare_worked(name: &'static str, worked: Worked) {
+    let table = table_of(&worked.rota);
+    assert_eq!((table.derived.len(), table.rows), (worked.derived, worked.rows));
+    let (mut case, mut tally) = (Case::new(name, 0), Tally::new(name));
+    compare_areas(&mut case, &mut tally, &Lent::new(worked.rota.encode()));
+    tally.reached([0, 20]);
+}
+
+#[test]
+fn runs_of_three_and_more_cells() {
+    compare_worked("runs_of_three_and_more_cells", joining::run_of_three());
+    compare_worked("runs_of_three_and_more_cells", joining::run_of_a_whole_cycle());
+}
+
+#[test]
+fn not_joined_over_a_cell_without_a_minute() {
+    compare_worked("not_joined_over_a_cell_without_a_minute", joining::cell_without_a_minute());
+}
+
+#[test]
+fn not_joined_across_eras() {
+    compare_worked("not_joined_across_eras", joining::two_eras());
+}
+
+#[test]
+fn not_joined_round_the_end_of_the_cycle() {
+    compare_worked("not_joined_round_the_end_of_the_cycle", joining::round_the_cycle());
+}
+
+#[test]
+fn rows_of_two_derived_roles_are_not_joined() {
+    compare_worked("rows_of_two_derived_roles_are_not_joined", joining::two_derived_roles());
+    compare_worked("rows_of_two_derived_roles_are_not_joined", joining::two_roles());
+}
+
+#[test]
+fn joined_and_unjoined_tables_mean_the_same() {
+    tallied("joined_and_unjoined_tables_mean_the_same", 400, rewriting::joined_and_unjoined)
+        .reached([0])
+        .also(&[&joining::REACHED[..], &["yes", "no"]].concat());
 }
 
 /// The days of Example 2 of document 003, in which the role DayDoctor is given to the doctors A to
@@ -221,16 +273,18 @@ fn counts_of_0_alone_and_together() {
 
 #[test]
 fn random_rotas() {
-    tallied("random_rotas", 2_000, rewriting::any_size)
-        .reached([0, 20])
-        .also(&["bare header", "a derived role with several rows"]);
+    tallied("random_rotas", 2_000, rewriting::any_size).reached([0, 20]).also(&[
+        "bare header",
+        "a derived role with several rows",
+        "rows joined",
+    ]);
 }
 
 #[test]
 fn small_rotas() {
     tallied("small_rotas", 2_500, rewriting::small)
         .reached([0, 20])
-        .also(&["an era shorter than the cycle"]);
+        .also(&[&joining::REACHED[..], &["an era shorter than the cycle"]].concat());
 }
 
 #[test]
@@ -271,36 +325,63 @@ fn every_length_and_byte() {
     tally.reached([0, 1, 9, 20]);
 }
 
-/// A large rota into 64 KiB, which is too little for it, and into an area of its table's size.
+/// A large rota into areas of its table's size and one less, and of 64 KiB, which is mostly too
+/// little for it.
 fn compare_fine(name: &'static str, rota: &Rota) -> Whole {
     let mut tally = Tally::new(name);
     let mut case = Case::new(name, 0);
     let lent = Lent::new(rota.encode());
     let size = lent.size();
     let start = Instant::now();
-    assert_eq!(compare(&mut case, &mut tally, &lent, 65_536), 20);
-    let refused = start.elapsed();
+    let refusal = compare(&mut case, &mut tally, &lent, 65_536);
+    assert_eq!(refusal, if size > 65_536 { 20 } else { 0 });
+    let in_64_kib = start.elapsed();
     assert_eq!(compare(&mut case, &mut tally, &lent, size), 0);
+    assert_eq!(compare(&mut case, &mut tally, &lent, size - 1), 20);
     let whole = lent.whole.expect("accepted");
     print(&format!(
-        "{name}: {} derived roles, {} rows, {size} bytes; {} ms, of which 64 KiB refused {} ms",
+        "{name}: {} derived roles, {} rows, unjoined {}, {size} bytes; {} ms, of which 64 KiB {} ms",
         whole.derived,
         whole.rows,
+        whole.unjoined.rows.len(),
         start.elapsed().as_millis(),
-        refused.as_millis(),
+        in_64_kib.as_millis(),
     ));
     whole
 }
 
-/// 65 eras, 513 cells, 32 roles: the most rows that a table can have.
+/// 65 eras, 513 cells, 32 roles: the most rows that a table can have before any are joined.
 const MOST: u32 = 65 * 513 * 32;
 
+/// How many derived roles, rows, and rows before they are joined.
+fn counts(whole: &Whole) -> (u32, u32, u32) {
+    (whole.derived, whole.rows, whole.unjoined.rows.len() as u32)
+}
+
+/// The most that were found.
 #[test]
 fn most_rows() {
-    let mut case = Case::new("most_rows", 0);
+    let whole = compare_fine("most_rows", &most_rows_rota());
+    assert_eq!(counts(&whole), (1_920, 970_528, MOST));
+}
+
+/// As many fields, which become one row for each era and role.
+#[test]
+fn most_rows_joined_to_few() {
+    let mut case = Case::new("most_rows_joined_to_few", 0);
     let rota = fine_rota(&mut case.random, 32, 8, 32, Sets::Same);
-    let whole = compare_fine("most_rows", &rota);
-    assert_eq!((whole.derived, whole.rows), (32, MOST));
+    let whole = compare_fine("most_rows_joined_to_few", &rota);
+    assert_eq!(counts(&whole), (32, 32 * 65, MOST));
+}
+
+/// The same with a few rows in each era, over many cells each.
+#[test]
+fn long_runs() {
+    let mut case = Case::new("long_runs", 0);
+    let rota = fine_rota(&mut case.random, 32, 8, 32, Sets::Few);
+    let whole = compare_fine("long_runs", &rota);
+    assert_eq!((whole.derived, counts(&whole).2), (64, MOST));
+    assert!((10_000..40_000).contains(&whole.rows), "{}", whole.rows);
 }
 
 /// As many fields, with thousands of derived roles of one role.
@@ -309,8 +390,8 @@ fn many_sets_of_one_role() {
     let mut case = Case::new("many_sets_of_one_role", 0);
     let rota = fine_rota(&mut case.random, 32, 8, 1, Sets::Many);
     let whole = compare_fine("many_sets_of_one_role", &rota);
-    assert_eq!(whole.rows, 65 * 513);
-    assert!(whole.derived > 5_000, "{}", whole.derived);
+    assert_eq!(whole.unjoined.rows.len(), 65 * 513);
+    assert!(whole.derived > 5_000 && whole.rows > 12_000, "{:?}", counts(&whole));
 }
 
 /// The most rows, with many thousands of derived roles of each of the 32 roles.
@@ -318,17 +399,20 @@ fn many_sets_of_one_role() {
 fn most_rows_and_most_sets() {
     let mut case = Case::new("most_rows_and_most_sets", 0);
     let whole = compare_fine("most_rows_and_most_sets", &most_sets_rota(&mut case.random));
-    assert_eq!(whole.rows, MOST);
-    assert!(whole.derived > 350_000, "{}", whole.derived);
+    assert_eq!(whole.unjoined.rows.len() as u32, MOST);
+    assert!(whole.derived > 350_000 && whole.rows > 750_000, "{:?}", counts(&whole));
 }
 
 /// The rotas that are made to take long.
 #[test]
 fn worst_rotas() {
-    let expected =
-        [(32 * 19_412, MOST), (8 * 12_609, MOST / 4), (22 * 12_608, 641_916), (32, 33_376)];
+    let expected = [
+        (32 * 19_412, 807_776, MOST),
+        (8 * 12_609, 181_592, MOST / 4),
+        (22 * 12_608, 492_360, 641_916),
+        (497, 16_128, 33_376),
+    ];
     for ((name, cut), expected) in worst::cuts().into_iter().zip(expected) {
-        let whole = compare_fine(name, &cut.rota());
-        assert_eq!((whole.derived, whole.rows), expected, "{name}");
+        assert_eq!(counts(&compare_fine(name, &cut.rota())), expected, "{name}");
     }
 }

@@ -7,6 +7,7 @@ use comparison::compare::table::{self, compare_next_use};
 use comparison::{expected, ffi};
 use reference::END;
 use reference::rewriting;
+use reference::rota::Rota;
 use reference::table::{DerivedRole, Row, Table};
 
 type Lent = asked::Lent<Table>;
@@ -14,6 +15,11 @@ type Lent = asked::Lent<Table>;
 /// The small rota's table, as its file holds it.
 fn small() -> Table {
     Table::parse(&data::small_table()).expect("well formed")
+}
+
+/// The same with its 12 rows unjoined.
+fn unjoined_small() -> Table {
+    rewriting::unjoined(&Rota::parse(&data::small_rota()).expect("well formed"))
 }
 
 #[test]
@@ -31,12 +37,12 @@ fn limits() {
         compare_read(&case, &mut tally, &lent);
         ffi::table::read(&lent.bytes).refusal
     };
-    let whole = small().encode();
+    let whole = unjoined_small().encode();
     assert_eq!(read_bytes(whole[..15].to_vec()), 21);
     assert_eq!(read_bytes(whole[..16].to_vec()), 25);
     assert_eq!(read_bytes([&whole[..], &[0]].concat()), 25);
     let mut read = |change: &dyn Fn(&mut Table)| {
-        let mut table = small();
+        let mut table = unjoined_small();
         change(&mut table);
         read_bytes(table.encode())
     };
@@ -134,7 +140,7 @@ fn largest_rewritten_tables() {
     for number in 0..3 {
         let mut case = Case::new("largest_rewritten_tables", number);
         let rota = generate::rota_of(&mut case.random, &generate::LIMITS);
-        let table = rewriting::table(&rota);
+        let table = generate::table_of_rota(&mut case.random, &rota);
         let lent = Lent::new(table.encode());
         compare_read(&case, &mut tally, &lent);
         for _ in 0..10 {

@@ -1,10 +1,12 @@
 //! Rewriting: byte for byte, into areas of the table's size and of sizes around it.
 
 use cases::case::{Case, Tally};
-use cases::generate;
-use reference::Refusal;
-use reference::rewriting::eras;
+use cases::{generate, joining};
+use reference::rewriting::{eras, touch};
+use reference::table::{self, Table};
+use reference::{Refusal, rewriting};
 
+use super::asked::{self, compare_holders, compare_question, compare_read};
 use super::rota::some_rota;
 use crate::expected::rewriting::{Whole, whole};
 use crate::{expected, ffi};
@@ -62,19 +64,24 @@ pub fn compare(case: &mut Case, tally: &mut Tally, lent: &Lent, size: usize) -> 
     expected.refusal
 }
 
-/// Areas of exactly the size, one byte less, one more, none, much larger, and one that is
-/// too small by any amount.
+/// Areas of exactly the size, one byte less, one more, none, much larger, one that is too small by
+/// any amount, and where rows are joined, one byte less than they would need unjoined.
 pub fn compare_areas(case: &mut Case, tally: &mut Tally, lent: &Lent) {
-    if let Ok(whole) = &lent.whole {
-        tally.count_if(whole.rows == 0, "bare header");
-        tally.count_if(whole.rows > 0, "rows");
-        tally.count_if(whole.derived < whole.rows, "a derived role with several rows");
-    }
     let size = lent.size();
     let larger = size + case.random.between(2, 5_000) as usize;
     let smaller = case.random.below(size as u32) as usize;
     for size in [size, size - 1, size + 1, 0, larger, smaller] {
         compare(case, tally, lent, size);
+    }
+    if let Ok(whole) = &lent.whole {
+        tally.count_if(whole.rows == 0, "bare header");
+        tally.count_if(whole.rows > 0, "rows");
+        tally.count_if(whole.derived < whole.rows, "a derived role with several rows");
+        joining::count(tally, &whole.unjoined, &whole.table);
+        let unjoined = table::size(whole.derived.into(), whole.unjoined.rows.len() as u64);
+        if unjoined > size as u64 {
+            assert_eq!(compare(case, tally, lent, unjoined as usize - 1), 0);
+        }
     }
 }
 
@@ -87,9 +94,12 @@ pub fn any_size(case: &mut Case, tally: &mut Tally) {
     compare_areas(case, tally, &Lent::new(rota.encode()));
 }
 
-/// Small rotas, where eras are often shorter than the cycle.
+/// Small rotas, where eras are often shorter than the cycle and rows often touch.
 pub fn small(case: &mut Case, tally: &mut Tally) {
-    let rota = generate::small_rota(&mut case.random);
+    let rota = match case.random.below(2) {
+        0 => generate::small_rota(&mut case.random),
+        _ => generate::touching_rota(&mut case.random),
+    };
     let shorter = |&(begin, end): &(u32, u32)| end - begin < rota.cycle.into();
     tally.count_if(eras(&rota).iter().any(shorter), "an era shorter than the cycle");
     compare_areas(case, tally, &Lent::new(rota.encode()));
@@ -114,5 +124,35 @@ pub fn damaged(case: &mut Case, tally: &mut Tally) {
     let any = case.random.below(400) as usize;
     for size in [0, lent.size(), any] {
         compare(case, tally, &lent, size);
+    }
+}
+
+/// The proved table's neighbouring rows do not touch. It and the table with its rows unjoined are
+/// read, enable the same derived roles and give the same answers, at each minute of some cycles on
+/// both sides of every era's border.
+pub fn joined_and_unjoined(case: &mut Case, tally: &mut Tally) {
+    let rota = joining::short_rota(&mut case.random);
+    let (bytes, unjoined) = (rota.encode(), rewriting::unjoined(&rota));
+    let tables = [ffi::rewriting::table(&bytes), unjoined.encode()];
+    for table in &tables {
+        compare_read(case, tally, &asked::Lent::<Table>::new(table.clone()));
+    }
+    let joined = Table::parse(&tables[0]).expect("a rewritten table is read");
+    joining::count(tally, &unjoined, &joined);
+    let touching = joined.rows.windows(2).find(|two| touch(&two[0], &two[1]));
+    case.same(touching, None, &bytes, "rows that touch");
+    // Of both is expected what the unjoined table gives.
+    let lent = tables.map(|bytes| asked::Lent { bytes, parsed: Ok(unjoined.clone()) });
+    for t in joining::minutes(&rota) {
+        let enabled = joining::enabled(&unjoined, t);
+        case.same(joining::enabled(&joined, t), enabled, &bytes, ("enabled at", t));
+        for lent in &lent {
+            compare_holders(case, tally, lent, t);
+            for user in 0..rota.users.into() {
+                for permission in 0..rota.permissions.into() {
+                    compare_question(case, tally, lent, user, permission, t);
+                }
+            }
+        }
     }
 }

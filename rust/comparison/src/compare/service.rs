@@ -274,7 +274,7 @@ pub fn damaged(case: &mut Case, tally: &mut Tally) {
     compare_damaged(case, tally, &bytes, near, Rota::parse(&bytes), on_rota);
 
     let table = match case.random.below(3) {
-        0 => rewriting::table(&rota),
+        0 => generate::table_of_rota(&mut case.random, &rota),
         _ => generate::small_table(&mut case.random),
     };
     let bytes = generate::damaged_table(&mut case.random, &table);

@@ -4,7 +4,7 @@ use cases::case::{Case, Tally};
 use cases::random::Random;
 use cases::{data, generate};
 use reference::table::Table;
-use reference::{END, Refusal, rewriting};
+use reference::{END, Refusal};
 
 use super::asked::{Kind, Lent, compare_all, compare_any_question, compare_question};
 use super::rota::some_rota;
@@ -113,7 +113,10 @@ pub fn by_hand(case: &mut Case, tally: &mut Tally) {
 pub fn next_uses(case: &mut Case, tally: &mut Tally) {
     let table = match case.random.below(8) {
         0 => generate::table(&mut case.random),
-        1 | 2 => rewriting::table(&generate::small_rota(&mut case.random)),
+        1 | 2 => {
+            let rota = generate::touching_rota(&mut case.random);
+            generate::table_of_rota(&mut case.random, &rota)
+        }
         _ => generate::small_table(&mut case.random),
     };
     let lent = Lent::new(table.encode());
@@ -152,10 +155,11 @@ pub fn next_uses_by_questions(case: &mut Case, tally: &mut Tally) {
     }
 }
 
-/// The tables of random rotas, asked where their own answers change and where the rotas' do.
+/// The tables of random rotas, joined and unjoined, asked where their own answers change and where
+/// the rotas' do.
 pub fn rewritten(case: &mut Case, tally: &mut Tally) {
     let rota = some_rota(&mut case.random, 10);
-    let table = rewriting::table(&rota);
+    let table = generate::table_of_rota(&mut case.random, &rota);
     let lent = Lent::new(table.encode());
     assert!(lent.parsed.is_ok(), "a rewritten table is accepted");
     compare_all(case, tally, &lent, &table, 5);
@@ -168,7 +172,10 @@ pub fn rewritten(case: &mut Case, tally: &mut Tally) {
 pub fn several_faults(case: &mut Case, tally: &mut Tally) {
     let table = match case.random.below(8) {
         0 => generate::table(&mut case.random),
-        1 => rewriting::table(&generate::small_rota(&mut case.random)),
+        1 => {
+            let rota = generate::touching_rota(&mut case.random);
+            generate::table_of_rota(&mut case.random, &rota)
+        }
         _ => generate::small_table(&mut case.random),
     };
     let lent = Lent::new(generate::damaged_table(&mut case.random, &table));

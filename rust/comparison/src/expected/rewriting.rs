@@ -3,20 +3,24 @@
 use reference::Refusal;
 use reference::rewriting;
 use reference::rota::Rota;
+use reference::table::Table;
 
 use crate::ffi::rewriting::Rewritten;
 
-/// The table of a rota's bytes.
+/// The table of a rota's bytes, and what it is before rows that touch are joined.
 pub struct Whole {
     pub derived: u32,
     pub rows: u32,
     pub bytes: Vec<u8>,
+    pub table: Table,
+    pub unjoined: Table,
 }
 
 pub fn whole(rota: &[u8]) -> Result<Whole, Refusal> {
-    let table = rewriting::table(&Rota::parse(rota)?);
+    let unjoined = rewriting::unjoined(&Rota::parse(rota)?);
+    let table = rewriting::joined(unjoined.clone());
     let (derived, rows) = (table.derived.len() as u32, table.rows.len() as u32);
-    Ok(Whole { derived, rows, bytes: table.encode() })
+    Ok(Whole { derived, rows, bytes: table.encode(), table, unjoined })
 }
 
 /// The rota's refusal, or 20, or the table at the area's start; all other bytes stay.
