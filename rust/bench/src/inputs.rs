@@ -1,6 +1,8 @@
 //! The inputs: the small rota, a week as an organization has it, the largest, and the worst.
 
-use cases::generate::{Sets, fine_rota, most_sets_rota, rota_minute, weekly_rota};
+use std::collections::HashSet;
+
+use cases::generate::{Sets, fine_rota, most_rows_rota, most_sets_rota, rota_minute, weekly_rota};
 use cases::random::Random;
 use cases::{data, worst};
 use comparison::ffi;
@@ -19,10 +21,32 @@ pub struct Question {
     pub minute: u32,
 }
 
+/// A rota, and what its rewriting goes through and comes to.
+pub struct Rewriting {
+    pub rota: Vec<u8>,
+    pub fields: usize,
+    /// Distinct sets of hours that hold in a field.
+    pub sets: usize,
+    /// Rows before those that touch are joined.
+    pub unjoined: usize,
+    pub rows: usize,
+    /// Bytes of the table.
+    pub length: usize,
+}
+
+/// Which table of its rota an input has, for what is asked of tables.
+#[derive(Clone, Copy, PartialEq, Eq)]
+enum Rows {
+    /// As it is rewritten.
+    Joined,
+    /// The most rows that a sender may have for it.
+    Unjoined,
+}
+
 pub struct Input {
     pub name: &'static str,
     /// None with a table that no rewriting makes.
-    pub rota: Option<Vec<u8>>,
+    pub rewriting: Option<Rewriting>,
     pub table: Vec<u8>,
     pub derived: usize,
     pub rows: usize,
@@ -34,14 +58,25 @@ pub struct Input {
 }
 
 impl Input {
-    fn new(name: &'static str, rota: Rota) -> Input {
-        let bytes = rota.encode();
-        let table = rewriting::table(&rota);
+    fn new(name: &'static str, rows: Rows, rota: Rota) -> Input {
+        let unjoined = rewriting::unjoined(&rota);
+        let joined = rewriting::joined(unjoined.clone());
+        let written = joined.encode();
+        let fields = rewriting::fields(&rota);
+        let rewriting = Rewriting {
+            rota: rota.encode(),
+            fields: fields.len(),
+            sets: fields.iter().map(|field| field.held).collect::<HashSet<u64>>().len(),
+            unjoined: unjoined.rows.len(),
+            rows: joined.rows.len(),
+            length: written.len(),
+        };
+        let mut area = vec![0; written.len()];
+        ffi::rewriting::rewrite(&rewriting.rota, &mut area);
+        assert!(area == written, "the two tables differ");
+        let table = if rows == Rows::Joined { joined } else { unjoined };
         let input = Input::of_table(name, &table, |random| rota_minute(random, &rota));
-        let mut area = vec![0; input.table.len()];
-        ffi::rewriting::rewrite(&bytes, &mut area);
-        assert!(area == input.table, "the two tables differ");
-        Input { rota: Some(bytes), ..input }
+        Input { rewriting: Some(rewriting), ..input }
     }
 
     /// Half of the minutes are where answers change, half are any.
@@ -57,7 +92,7 @@ impl Input {
             .collect();
         Input {
             name,
-            rota: None,
+            rewriting: None,
             table: table.encode(),
             derived: table.derived.len(),
             rows: table.rows.len(),
@@ -65,6 +100,10 @@ impl Input {
             questions,
             without_user: without_user(table).encode(),
         }
+    }
+
+    pub fn rota(&self) -> Option<&[u8]> {
+        self.rewriting.as_ref().map(|rewriting| &rewriting.rota[..])
     }
 
     pub fn question(&self, i: usize) -> Question {
@@ -93,18 +132,25 @@ fn entries_alone() -> Table {
 pub fn inputs() -> Vec<Input> {
     let mut random = Random::new(2);
     let small = Rota::parse(&data::small_rota()).expect("well formed");
+    let many_sets = fine_rota(&mut random, 32, 8, 1, Sets::Many);
     let mut inputs = vec![
-        Input::new("small", small),
-        Input::new("weekly", weekly_rota()),
-        // 17 eras and 113 cells for 2 roles.
-        Input::new("table of about 64 KiB", fine_rota(&mut random, 8, 7, 2, Sets::Same)),
-        Input::new("many sets of one role", fine_rota(&mut random, 32, 8, 1, Sets::Many)),
-        // All counts of these two rotas are at their limits: no rota is longer, no table of one
-        // has more rows.
-        Input::new("most rows", fine_rota(&mut random, 32, 8, 32, Sets::Same)),
-        Input::new("most rows, most sets", most_sets_rota(&mut random)),
+        Input::new("small", Rows::Joined, small),
+        Input::new("weekly", Rows::Joined, weekly_rota()),
+        // 17 eras and 129 cells for 3 roles.
+        Input::new(
+            "table of about 64 KiB",
+            Rows::Joined,
+            fine_rota(&mut random, 8, 8, 3, Sets::Many),
+        ),
+        Input::new("many sets of one role", Rows::Unjoined, many_sets),
+        // All counts of these rotas are at their limits: no rota is longer. Unjoined, no table of
+        // one has more rows.
+        Input::new("most rows", Rows::Unjoined, most_rows_rota()),
+        Input::new("most rows, most sets", Rows::Unjoined, most_sets_rota(&mut random)),
+        Input::new("long runs", Rows::Joined, fine_rota(&mut random, 32, 8, 32, Sets::Few)),
     ];
-    inputs.extend(worst::cuts().into_iter().map(|(name, cut)| Input::new(name, cut.rota())));
+    let cuts = worst::cuts().into_iter();
+    inputs.extend(cuts.map(|(name, cut)| Input::new(name, Rows::Unjoined, cut.rota())));
     inputs
         .push(Input::of_table("derived roles alone", &entries_alone(), |random| random.below(END)));
     inputs

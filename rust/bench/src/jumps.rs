@@ -52,20 +52,26 @@ fn readings(advance: Times, read: Times) -> String {
 
 pub fn print_worst_rotas() {
     println!(
-        "\n| 400 years, everyone stays | rota advance | table advance | table read | readings |"
+        "\n| 400 years, everyone stays | rota advance | table rows | table advance | table read | \
+         readings |"
     );
-    println!("|---|---|---|---|---|");
+    println!("|---|---|---|---|---|---|");
     for (name, rota) in jumps::rotas() {
-        let table = rewriting::table(&rota).encode();
         let on_rota = advance(Lent::Rota(&rota.encode()), END - 1, false);
-        let (on_table, read) = (advance(Lent::Table(&table), END - 1, false), read(&table));
-        println!(
-            "| {name} | {} | {} | {} | {} |",
-            cell(on_rota),
-            cell(on_table),
-            cell(read),
-            readings(on_table, read),
-        );
+        let unjoined = rewriting::unjoined(&rota);
+        let joined = rewriting::joined(unjoined.clone());
+        for (which, on_rota, table) in
+            [("", cell(on_rota), joined), (", unjoined", "".into(), unjoined)]
+        {
+            let (rows, table) = (table.rows.len(), table.encode());
+            let (on_table, read) = (advance(Lent::Table(&table), END - 1, false), read(&table));
+            println!(
+                "| {name}{which} | {on_rota} | {rows} | {} | {} | {} |",
+                cell(on_table),
+                cell(read),
+                readings(on_table, read),
+            );
+        }
     }
 }
 

@@ -10,15 +10,16 @@ use std::hint::black_box;
 
 use cases::random::Random;
 use comparison::ffi;
-use reference::END;
+use reference::rewriting::Written;
 use reference::service::{Call, Lent, State};
+use reference::{END, Refusal};
 use tuned::policy::{holders, question};
 use tuned::rota::Rota;
 use tuned::service::serve;
 use tuned::table::Table;
 use tuned::{calendar, rewriting};
 
-use inputs::{Input, Question, inputs};
+use inputs::{Input, Question, Rewriting, inputs};
 use timing::{Times, time};
 
 /// All that was timed, in the order of the lines that were printed.
@@ -93,8 +94,7 @@ fn in_words(seconds: f64) -> String {
 }
 
 fn rota(input: &Input, report: &mut Report) {
-    let Some(bytes) = &input.rota else { return };
-    let (name, bytes) = (input.name, &bytes[..]);
+    let (name, Some(bytes)) = (input.name, input.rota()) else { return };
     let times = time(|_| ffi::rota::read(black_box(bytes)), |_| Rota::read(black_box(bytes)));
     report.print_reader("rota read", name, bytes, times);
     let times = time(
@@ -159,21 +159,24 @@ fn next_use_times(bytes: &[u8], question: impl Fn(usize) -> Question) -> Times {
     )
 }
 
-/// Into an area of the table's size, and into one of 64 KiB if that is too small for it.
+/// Into an area of the table's size, beside both forms of the quick implementation, and into one of
+/// 64 KiB if that is too small for it.
 fn rewrite(input: &Input, report: &mut Report) {
-    let Some(rota) = &input.rota else { return };
-    let mut into = |operation: &str, size: usize| {
+    let Some(Rewriting { rota, length, .. }) = &input.rewriting else { return };
+    type Quick = fn(&[u8], &mut [u8]) -> Result<Written, Refusal>;
+    let mut into = |operation: &str, size: usize, quick: Quick| {
         let (mut ours, mut theirs) = (vec![0; size], vec![0; size]);
         let times = time(
             |_| ffi::rewriting::rewrite(black_box(rota), &mut ours),
-            |_| rewriting::rewrite(black_box(rota), &mut theirs),
+            |_| quick(black_box(rota), &mut theirs),
         );
         assert!(ours == theirs, "the two tables differ");
         report.print(operation, input.name, times);
     };
-    into("rewrite", input.table.len());
-    if input.table.len() > 65_536 {
-        into("rewrite, 20 at 64 KiB", 65_536);
+    into("rewrite", *length, rewriting::rewrite);
+    into("rewrite, marks not kept", *length, rewriting::rewrite_twice);
+    if *length > 65_536 {
+        into("rewrite, 20 at 64 KiB", 65_536, rewriting::rewrite);
     }
 }
 
@@ -194,7 +197,7 @@ fn service(input: &Input, report: &mut Report) {
     };
     for (kind, (name, _)) in calls(0).into_iter().enumerate() {
         let call = |i: usize| calls(i)[kind].1;
-        if let Some(rota) = &input.rota {
+        if let Some(rota) = input.rota() {
             report.print(&format!("rota {name}"), input.name, serve_times(Lent::Rota(rota), call));
         }
         let table = Lent::Table(&input.table);
@@ -243,18 +246,31 @@ fn dates(report: &mut Report) {
     }
 }
 
+/// What each rota's rewriting goes through and comes to, and the table that is read and asked.
+fn print_inputs(inputs: &[Input]) {
+    println!(
+        "| input | rota, bytes | fields | sets of hours | derived roles | rows | unjoined | bytes | \
+         table read: rows | bytes |"
+    );
+    println!("|---|---|---|---|---|---|---|---|---|---|");
+    for input in inputs {
+        let rewritten = input.rewriting.as_ref().map_or(" | | ".into(), |rewriting| {
+            let Rewriting { rota, fields, sets, .. } = rewriting;
+            format!("{} | {fields} | {sets}", rota.len())
+        });
+        let written = input.rewriting.as_ref().map_or(" | | ".into(), |rewriting| {
+            let Rewriting { rows, unjoined, length, .. } = rewriting;
+            format!("{rows} | {unjoined} | {length}")
+        });
+        let (name, derived, rows) = (input.name, input.derived, input.rows);
+        let bytes = input.table.len();
+        println!("| {name} | {rewritten} | {derived} | {written} | {rows} | {bytes} |");
+    }
+}
+
 fn main() {
     let inputs = inputs();
-    for input in &inputs {
-        println!(
-            "{:<22} rota {} bytes, table {} bytes: {} derived roles, {} rows",
-            input.name,
-            input.rota.as_ref().map_or(0, Vec::len),
-            input.table.len(),
-            input.derived,
-            input.rows,
-        );
-    }
+    print_inputs(&inputs);
     println!(
         "\n{:<24} {:<22} {:>14} {:>14} {:>9}",
         "operation", "input", "proved ns", "tuned ns", "ratio"

@@ -172,9 +172,11 @@ fn largest_rotas() {
     tally.reached([0, 20]);
 }
 
-/// A small rota, one of any size, or one of which most grants something.
+/// A small rota, one of any size, one of which most grants something, or one at all limits, whose
+/// table has no room.
 fn any_rota(random: &mut Random) -> Rota {
     match random.below(8) {
+        0 if random.one_in(16) => generate::rota_of(random, &LIMITS),
         0 => generate::rota(random),
         1 | 2 => generate::granting_rota(random),
         3 | 4 => generate::touching_rota(random),

@@ -51,14 +51,14 @@ pub fn first_minute(cycle: u32, era: (u32, u32), cell: (u32, u32)) -> Option<u32
 }
 
 /// An era with a cell, and which hours hold in it; all its minutes agree.
-struct Field {
-    era: (u32, u32),
-    cell: (u32, u32),
-    held: u64,
+pub struct Field {
+    pub era: (u32, u32),
+    pub cell: (u32, u32),
+    pub held: u64,
 }
 
 /// All fields that have a minute, eras first, then cells.
-fn fields(rota: &Rota) -> Vec<Field> {
+pub fn fields(rota: &Rota) -> Vec<Field> {
     let cycle = u32::from(rota.cycle);
     let cells = cells(rota);
     let mut fields = Vec::new();
