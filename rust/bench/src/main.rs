@@ -249,8 +249,8 @@ fn dates(report: &mut Report) {
 /// What each rota's rewriting goes through and comes to, and the table that is read and asked.
 fn print_inputs(inputs: &[Input]) {
     println!(
-        "| input | rota, bytes | fields | sets of hours | derived roles | rows | unjoined | bytes | \
-         table read: rows | bytes |"
+        "| input | rota, bytes | fields | sets of hours | derived roles | rows | unjoined | \
+         bytes | table read: rows | bytes |"
     );
     println!("|---|---|---|---|---|---|---|---|---|---|");
     for input in inputs {

@@ -47,12 +47,13 @@ impl Worked {
     }
 }
 
-/// Cells from 1 to 3, to 5 and to 7 are one row; and so are all of a cycle that are cut for nothing.
+/// Cells from 1 to 3, to 5 and to 7 are one row.
 pub fn run_of_three() -> Worked {
     let hours = [Hours::new(0, END, &[(1, 6)]), Hours::new(0, END, &[(3, 2)])];
     worked(&hours, &[HoursRef::Numbered(0)]).gives(1, &[(0, 0, END, 1, 6)])
 }
 
+/// All ten cells are one row.
 pub fn run_of_a_whole_cycle() -> Worked {
     let every_other: Vec<_> = (0..CYCLE / 2).map(|i| (2 * i, 1)).collect();
     let hours = [Hours::new(0, END, &every_other)];

@@ -340,7 +340,7 @@ fn compare_fine(name: &'static str, rota: &Rota) -> Whole {
     assert_eq!(compare(&mut case, &mut tally, &lent, size - 1), 20);
     let whole = lent.whole.expect("accepted");
     print(&format!(
-        "{name}: {} derived roles, {} rows, unjoined {}, {size} bytes; {} ms, of which 64 KiB {} ms",
+        "{name}: {} derived roles, {} rows, unjoined {}, {size} bytes; {} ms, 64 KiB {} ms",
         whole.derived,
         whole.rows,
         whole.unjoined.rows.len(),

@@ -85,8 +85,8 @@ fn small_rota_needs_195_bytes() {
     assert_eq!(rewrite(&rota[..53], &mut []), Err(9), "the rota's refusals come first");
 }
 
-/// Runs of any length; not over a cell without a minute, across eras, round the cycle's end, and not
-/// rows of two derived roles.
+/// Runs of any length; but not over a cell without a minute, across eras, round the cycle's end, and
+/// not rows of two derived roles.
 #[test]
 fn rows_that_touch_are_one() {
     for (name, worked) in joining::all_worked() {

@@ -30,8 +30,8 @@ fn shuffled(random: &mut Random, count: u32) -> Vec<u32> {
 
 /// A rota in which every begin and end cuts an era and every edge of a pair a cell:
 /// 2 × hours + 1 eras, all longer than the cycle, and 2 × hours × pairs + 1 cells.
-/// Each role keeps every field, so there is a row for each role, era and cell before rows that touch
-/// are joined.
+/// Each role keeps every field, so there is a row for each role, era and cell before rows that
+/// touch are joined.
 /// `pairs` are those of one record. With 32 hours of 8 pairs and 32 roles all is at its limit.
 pub fn fine_rota(random: &mut Random, hours: u32, pairs: u32, roles: u32, sets: Sets) -> Rota {
     let cycle = LIMITS.cycle;

@@ -15,7 +15,7 @@ pub fn rota_with_table(derived: u32, rows: u32) -> Rota {
     let odd_minutes = of_role.div_ceil(3) as u16;
     let last = of_role as u16 - 2 * odd_minutes;
     let odd: Vec<(u16, u16)> = (0..odd_minutes).map(|i| (2 * i + 1, 1)).collect();
-    // The hours of the first two eras, of the last two until `last` odd minutes, and until one less.
+    // The hours of the first two eras; of the last two, for `last` odd minutes, and for one less.
     let until = |minutes: u16| Hours::new(1_000_000, END, &[(0, 2 * minutes)]);
     let two_eras = Hours::new(0, 2_000_000, &[(0, 2 * odd_minutes)]);
     let hours = vec![Hours::new(0, END, &odd), two_eras, until(last), until(last - 1)];
