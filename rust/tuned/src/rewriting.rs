@@ -129,12 +129,12 @@ impl Fields {
         rows
     }
 
-    /// Writes these rows; `first` is the number of the role's first derived role.
-    fn write(&self, marks: &[u16], first: u32, mut places: impl FnMut(&Row)) {
+    /// Puts these rows, each once; `first` is the number of the role's first derived role.
+    fn put_rows(&self, marks: &[u16], first: u32, mut put: impl FnMut(&Row)) {
         for (run, stretches) in self.runs() {
             let mut row = |mark: u16, from: u16, to: u16| {
                 if mark != 0 {
-                    places(&Row {
+                    put(&Row {
                         derived: first + u32::from(mark) - 1,
                         begin: run.begin,
                         end: run.end,
@@ -156,8 +156,8 @@ impl Fields {
     }
 }
 
-/// The cells that share a minute with an era: all in one run, or two runs where the remainders of
-/// its minutes go past the cycle's end and leave cells out. The second is often empty.
+/// The cells that share a minute with an era, side by side: one run, or two where the remainders of
+/// its minutes go past the cycle's end and leave cells out.
 fn cells_of(cuts: &[u32], cycle: u32, begin: u32, end: u32) -> impl Iterator<Item = Range<usize>> {
     let all = cuts.len() - 1;
     let phase = begin % cycle;
@@ -460,7 +460,7 @@ fn rewrite_with<const KEEPS: bool>(bytes: &[u8], area: &mut [u8]) -> Result<Writ
             found = deriver.derive(role, usize::MAX).expect("no limit");
         }
         let marks = &deriver.marks[found.marks];
-        fields.write(marks, first, |row| {
+        fields.put_rows(marks, first, |row| {
             *row_places.next().expect("as many places as rows") = encode(row);
         });
         let sets = &deriver.known.keys[found.derived];
