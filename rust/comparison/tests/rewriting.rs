@@ -394,7 +394,7 @@ fn many_sets_of_one_role() {
     assert!(whole.derived > 5_000 && whole.rows > 12_000, "{:?}", counts(&whole));
 }
 
-/// The most rows, with many thousands of derived roles of each of the 32 roles.
+/// As many fields, with many thousands of derived roles of each of the 32 roles.
 #[test]
 fn most_rows_and_most_sets() {
     let mut case = Case::new("most_rows_and_most_sets", 0);
