@@ -1,18 +1,20 @@
 -- The loop over the masks of a role: what is left, done from where the loop stands, is the whole.
 --     settled-none, settled-step    what is settled: no minute, and a mask after its own step
 --     step-same, step-marked        one mask: the one before again, and one that was marked
---     Deriving, deriving-..         the loop
+--     Deriving, deriving-..         the loop; Going, going-.. with its index and the mask before
 -- Assumes nothing.
-use Prim.Native.Nat.{ℕ, suc, _+_, _<_, _≤_}
-use mathlib.Core.Path.{_≡_, refl, sym, _∙_, ap, ap₂, subst}
-use mathlib.Core.Bool.{Bool, true, false}
+use Prim.Native.Nat.{ℕ, suc, _+_, _*_, _<_, _≤_}
+use mathlib.Core.Path.{_≡_, refl, sym, _∙_, ap, ap₂}
+use mathlib.Core.Bool.{Bool}
 use mathlib.Core.Option.{Option, none}
 use mathlib.Core.List.{List, [], _∷_, _++_, map, append-nil}
 use native.Mathlib.Omega.{arith}
 use native.Mathlib.Numerals.{add-one}
-use lib.ListN.{length, getD, take, drop, set, length-map, length-take, length-set}
-use lib.Seq.{take-suc-set, append-snoc, drop-cons, drop-length, getD-take}
+use lib.ListN.{length, getD, take, drop, set, length-map, length-set}
+use lib.Seq.{take-suc-set, append-snoc, drop-cons, drop-length, getD-take, length-take-le}
+use Rattle.ground.specs.Choice.{pick}
 use Rattle.bitset.specs.Sets.{insert}
+use Rattle.bitset.proofs.SetLaws.{has-none}
 use Rattle.table.specs.Table.{Entry}
 use Rattle.derivation.specs.Roles.{nextEntries, markOf, derivedFrom, marksFrom}
 use Rattle.derivation.specs.Kinds.{masksIn}
@@ -20,7 +22,9 @@ use Rattle.derivation.proofs.KindLaws.{map-at, known-next, known-same, mark-nex
 use Rattle.index.specs.Entries.{entriesTo}
 use Rattle.index.proofs.EntryLaws.{entries-length, entries-none}
 use Rattle.marking.specs.declared.Role.{Role}
-use Rattle.marking.specs.Role.{keptBy}
+use Rattle.trees.specs.Tree.{Indexed}
+use Rattle.unions.specs.Union.{unionOf}
+use Rattle.marking.specs.Role.{setsMade, setsIn, keptWith, keptBy}
 use Rattle.marking.specs.Mark.{Marked}
 use Rattle.marking.proofs.MarkLaws.{grown-yes, grown-no}
 use Rattle.derive.specs.declared.Step.{Step}
@@ -86,13 +90,16 @@ module _ (g : ℕ → Option Entry) (ms : List ℕ) (i : ℕ) (hi : i < length m
 -- ---- the masks of sets of hours
 
 module _ (sets : List ℕ) (n : ℕ) (h : n ≤ length sets) where
+  taken : length (take n sets) ≡ n
+  taken = length-take-le n sets h
+
   masks-length : length (masksIn sets n) ≡ n
   unfolding masksIn
-  masks-length = length-map (take n sets) (λ (x : ℕ). insert x 32) ∙ length-take n sets h
+  masks-length = length-map (take n sets) (λ (x : ℕ). insert x 32) ∙ taken
 
   masks-at : (i : ℕ) → i < n → getD (masksIn sets n) i 0 ≡ insert (getD sets i 0) 32
   unfolding masksIn
-  masks-at i l = map-at (λ (x : ℕ). insert x 32) (take n sets) i (omega (arith, length-take n sets h)) ∙ ap (λ (x : ℕ). insert x 32) (getD-take n sets i 0 l)
+  masks-at i l = map-at (λ (x : ℕ). insert x 32) (take n sets) i (omega (arith, taken)) ∙ ap (λ (x : ℕ). insert x 32) (getD-take n sets i 0 l)
 
 -- ---- the loop
 
@@ -152,3 +159,74 @@ module _ {role : Role} {sets : List ℕ} {n : ℕ} {pairs marks : List ℕ} {d i
 
       no-marks : (es : List Entry) → drop i (masksIn sets n) ≡ [] → marksFrom (keptBy role) es (drop i (masksIn sets n)) ≡ []
       no-marks es z = ap (marksFrom (keptBy role) es) z ∙ (unfold marksFrom in refl)
+
+-- with no hours the role has nothing
+pub kept-nothing : (role : Role) → keptBy role 0 ≡ none
+unfolding keptBy setsIn
+kept-nothing role = ap (λ (b : Bool). keptWith (role .source) (pick b (setsMade (unionOf (role .users) 0 33) (unionOf (role .permissions) 0 33)) (setsMade 0 0))) (has-none (role .on))
+
+room-kept : {n w : ℕ} {sets pairs marks links pairs′ marks′ links′ : List ℕ} → Room n w sets pairs marks links → length pairs′ ≡ length pairs
+    → length marks′ ≡ length marks → length links′ ≡ length links → Room n w sets pairs′ marks′ links′
+room-kept r ep em el =
+    record {
+      few = r .few;
+      for-sets = r .for-sets;
+      for-pairs = omega (arith, r .for-pairs);
+      for-marks = omega (arith, r .for-marks);
+      for-links = omega (arith, r .for-links);
+      some = r .some;
+      trees = r .trees;
+    }
+
+-- the loop with its index, and the mask before
+pub record Going (role : Role) (sets : List ℕ) (n w a b : ℕ) (pairs₀ marks₀ links₀ pairs marks links : List ℕ) (d last mark i : ℕ) : Type 0 where
+  pub so-far : Deriving role sets n pairs marks d i
+  pub indexed : Indexed w d pairs links a b
+  pub settled : Settled (entriesTo (role .source) d pairs) (keptBy role last) mark
+  pub small : mark ≤ d
+  pub room : Room n w sets pairs marks links
+  pub long-pairs : length pairs ≡ length pairs₀
+  pub long-marks : length marks ≡ length marks₀
+  pub long-links : length links ≡ length links₀
+
+pub going-start : (role : Role) {sets : List ℕ} {n w a b : ℕ} {pairs marks links₀ links : List ℕ} → Room n w sets pairs marks links₀ → Indexed w 0 pairs links a b
+    → length links ≡ length links₀ → Going role sets n w a b pairs (set marks 0 0) links pairs (set marks 0 0) links 0 0 0 0
+going-start role {sets} {n} {pairs = pairs} {marks} r x l =
+    record {
+      so-far = deriving-start role sets n pairs marks (omega (arith, r .for-marks));
+      indexed = x;
+      settled = settled-none (entriesTo (role .source) 0 pairs) (keptBy role 0) (kept-nothing role);
+      small = omega arith;
+      room = room-kept r refl (length-set marks 0 0) l;
+      long-pairs = refl;
+      long-marks = refl;
+      long-links = refl;
+    }
+
+module _ {role : Role} {sets : List ℕ} {n w a b : ℕ} {pairs₀ marks₀ links₀ pairs marks links : List ℕ} {d last mark i : ℕ}
+    (g : Going role sets n w a b pairs₀ marks₀ links₀ pairs marks links d last mark i) where
+  pub going-room : i < n → (2 * d + 1 < length pairs) × (w + 2 * d + 1 < length links) × (d < 33345) × (0 < w) × (w ≤ 16384)
+  going-room h =
+      let r = g .room in (
+        omega (arith, g .so-far .few, r .for-pairs),
+        omega (arith, g .so-far .few, r .for-links),
+        omega (arith, g .so-far .few, r .few),
+        r .some,
+        r .trees,
+      )
+
+  -- one mask more, cut to the hours that the role names
+  pub going-turn : (pairs′ links′ : List ℕ) (m : ℕ) (k : Step) → i < n → keptBy role m ≡ keptBy role (insert (getD sets i 0) 32)
+      → Stepped (role .source) (keptBy role m) d pairs pairs′ k → Indexed w (k .entries) pairs′ links′ a b → length pairs′ ≡ length pairs → length links′ ≡ length links
+      → Going role sets n w a b pairs₀ marks₀ links₀ pairs′ (set marks (i + 1) (k .mark)) links′ (k .entries) m (k .mark) (i + 1)
+  going-turn pairs′ links′ m k h e t x lp ll =
+      record {
+        so-far = deriving-turn (g .so-far) (g .room .for-sets) pairs′ (keptBy role m) k h (omega (arith, g .room .for-marks)) e t;
+        indexed = x;
+        settled = settled-step t;
+        small = t .small;
+        room = room-kept (g .room) lp (length-set marks (i + 1) (k .mark)) ll;
+        long-pairs = lp ∙ g .long-pairs;
+        long-marks = length-set marks (i + 1) (k .mark) ∙ g .long-marks;
+        long-links = ll ∙ g .long-links;
+      }

@@ -2,7 +2,8 @@
 // each mask gives.
 ghost use mathlib.Core.Path.{_≡_};
 ghost use Prim.Native.Nat.{_+_, _*_, _<_, _≤_};
-ghost use lib.ListN.{length};
+ghost use lib.ListN.{length, getD};
+ghost use Rattle.bitset.specs.Sets.{insert};
 ghost use Rattle.trees.specs.Tree.{Indexed};
 ghost use Rattle.index.specs.Entries.{entriesTo};
 ghost use Rattle.marking.specs.Role.{keptBy};
@@ -13,6 +14,14 @@ use marking::Role;
 pub struct Step {
     pub mark: usize,
     pub entries: usize,
+}
+
+// Mask i: the hours of set i, and always.
+fn mask_at(sets: &[u32], i: usize) -> u64
+    requires { ⌜ i < length (now sets) ⌝ }
+    ensures { λ m. ⌜ m ≡ insert (getD (now (sets .entry)) i 0) 32 ⌝ }
+{
+    bitset::with(sets[i] as u64, 32)
 }
 
 // The mark of mask m, after mask `last` with `mark`: neighbours often differ only in hours that the role does not name.
@@ -106,7 +115,7 @@ pub fn derive(
     let mut mark = 0;
     let mut i = 0;
     while i < n {
-        let m = bitset::both(bitset::with(sets[i] as u64, 32), named);
+        let m = bitset::both(mask_at(sets, i), named);
         let k = next_mark(
             source,
             on,

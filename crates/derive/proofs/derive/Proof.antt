@@ -1,135 +1,117 @@
+use Prim.Native.Nat.{ℕ}
+use lib.ListN.{length-set}
+use native.Mathlib.Omega.{arith}
+use Prim.Native.Nat.{_-_}
+use mathlib.Core.Path.{_≡_, refl, sym, _∙_, ap, ap₂}
+use Rattle.bitset.specs.Sets.{insert, union, intersection}
+use Rattle.unions.specs.Union.{unionOf, usedIn}
+use Rattle.marking.specs.Role.{keptBy}
+use Rattle.derive.specs.Derive.{roleMade}
+use Rattle.derive.proofs.NamedLaws.{named-same}
+use Rattle.derive.proofs.DeriveLaws.{Going, going-start, going-room, going-turn, deriving-end}
+use borrow.Author.Needs.{needs}
 use Rattle.derive.proofs.derive.Statement.{statement}
 use Rattle.derive.proofs.derive.Tie as tie
-use Rattle.derive.proofs.derive.Reads as reads
-use Rattle.derive.proofs.derive.Lts as lts
-use Rattle.bitset.proofs.both.Reads as both-reads
-use Rattle.bitset.proofs.either.Reads as either-reads
-use Rattle.bitset.proofs.with.Reads as with-reads
-use Rattle.derive.proofs.next_mark.Reads as next-mark-reads
-use Rattle.index.proofs.clear.Reads as clear-reads
-use Rattle.unions.proofs.fill.Reads as fill-reads
-use Rattle.unions.proofs.union_in.Reads as union-in-reads
-use Rattle.unions.proofs.used_in.Reads as used-in-reads
 
 abbrev Inv-loop : tie.InvT-loop
-Inv-loop sets n pairs₀ marks₀ links₀ w source on users permissions user-slots permission-slots a b user-table permission-table user-groups permission-groups named d₀ last₀ mark₀ i₀ pairs marks links d last mark i =
-    ?
+Inv-loop sets n pairs₀ marks₀ links₀ w source on users permissions user-slots permission-slots a b user-table permission-table user-groups permission-groups named d₀ last₀ mark₀ i₀ pairs marks links d last mark i = Going (roleMade source on users permissions) sets n w a b pairs₀ marks₀ links₀ pairs marks links d last mark i
 
 abbrev μ-loop : tie.MeasureT-loop
-μ-loop sets n pairs₀ marks₀ links₀ w source on users permissions user-slots permission-slots a b user-table permission-table user-groups permission-groups named d₀ last₀ mark₀ i₀ pairs marks links d last mark i =
-    ?
+μ-loop sets n pairs₀ marks₀ links₀ w source on users permissions user-slots permission-slots a b user-table permission-table user-groups permission-groups named d₀ last₀ mark₀ i₀ pairs marks links d last mark i = n - i
 
--- src/lib.rt:93:9
 used-in-requires : tie.Need-used-in-requires Inv-loop μ-loop
-used-in-requires c κs = ?
+used-in-requires c κs = search needs
 
--- src/lib.rt:94:9
 used-in-requires-2 : tie.Need-used-in-requires-2 Inv-loop μ-loop
-used-in-requires-2 c κs = ?
+used-in-requires-2 c κs = search needs
 
--- src/lib.rt:95:9
 union-in-requires : tie.Need-union-in-requires Inv-loop μ-loop
-union-in-requires c κs = ?
+union-in-requires c κs = c .before .before .before .used-in .ensures
 
--- src/lib.rt:96:9
 union-in-requires-2 : tie.Need-union-in-requires-2 Inv-loop μ-loop
-union-in-requires-2 c κs = ?
+union-in-requires-2 c κs = c .before .before .before .used-in2 .ensures
 
--- src/lib.rt:99:9
 fill-requires : tie.Need-fill-requires Inv-loop μ-loop
-fill-requires c κs = ?
+fill-requires c κs = (c .before .before .before .before .before .before .before .before .used-in .ensures, search needs)
 
--- src/lib.rt:100:9
 fill-requires-2 : tie.Need-fill-requires-2 Inv-loop μ-loop
-fill-requires-2 c κs = ?
+fill-requires-2 c κs = (c .before .before .before .before .before .before .before .before .before .used-in2 .ensures, search needs)
 
--- src/lib.rt:101:30
 either-requires : tie.Need-either-requires Inv-loop μ-loop
-either-requires c κs = ?
+either-requires c κs = search needs
 
--- src/lib.rt:101:9
 with-requires : tie.Need-with-requires Inv-loop μ-loop
-with-requires c κs = ?
+with-requires c κs = search needs
 
--- src/lib.rt:102:5
 clear-requires : tie.Need-clear-requires Inv-loop μ-loop
-clear-requires c κs = ?
+clear-requires c κs = omega (arith, c .before .before .before .before .before .before .before .before .before .before .before .before .before .before .before .before .before .before .before .before .before .before .before .pre .1 .for-links)
 
--- src/lib.rt:103:5
 slice-write-marks : tie.Need-slice-write-marks Inv-loop μ-loop
-slice-write-marks c = ?
+slice-write-marks c = omega (arith, c .before .before .before .before .before .before .before .before .before .before .before .before .before .before .before .before .before .before .before .before .before .before .before .before .before .before .pre .1 .for-marks)
 
--- src/lib.rt:108:5
 loop-holds : tie.Need-loop-holds Inv-loop μ-loop
-loop-holds c = ?
+loop-holds c = going-start _ (c .before .before .before .before .before .before .before .before .before .before .before .before .before .before .before .before .before .before .before .before .before .before .before .before .before .before .pre .1) (c .before .before .clear .ensures _ _ _) (c .before .before .clear .kept .0)
 
--- src/lib.rt:109:43
-mul-with : tie.Need-mul-with Inv-loop μ-loop
-mul-with c = ?
+mask-at-requires : tie.Need-mask-at-requires Inv-loop μ-loop
+mask-at-requires c κs = omega (arith, c .before .loop .inv .room .for-sets)
 
--- src/lib.rt:109:43
-shared-slice-read-with : tie.Need-shared-slice-read-with Inv-loop μ-loop
-shared-slice-read-with c = ?
-
--- src/lib.rt:109:43
-cast-with : tie.Need-cast-with Inv-loop μ-loop
-cast-with c = ?
-
--- src/lib.rt:109:30
-with-requires-2 : tie.Need-with-requires-2 Inv-loop μ-loop
-with-requires-2 c κs = ?
-
--- src/lib.rt:109:13
 both-requires : tie.Need-both-requires Inv-loop μ-loop
-both-requires c κs = ?
+both-requires c κs = search needs
 
--- src/lib.rt:110:13
 next-mark-requires : tie.Need-next-mark-requires Inv-loop μ-loop
-next-mark-requires c κs = ?
+next-mark-requires c κs =
+    let g = c .before .before .before .before .before .before .before .before .before .loop .inv in
+    let z = going-room g (c .before .before .before .before .before .before .before .before .loop-test .taken) in (
+      (z .0, z .1, z .2, z .3, z .4, omega (arith, c .before .before .before .before .before .before .before .before .before .before .before .before .before .before .before .before .before .before .before .before .before .before .before .before .before .before .before .before .before .before .before .before .before .before .before .before .pre .0)),
+      (
+        (
+          record { used-are = c .before .before .before .before .before .before .before .before .before .before .before .before .before .before .before .before .before .before .before .before .before .before .before .before .before .before .before .before .used-in .ensures; tabled = c .before .before .before .before .before .before .before .before .before .before .before .before .before .before .before .before .before .before .before .fill .ensures; all-are = c .before .before .before .before .before .before .before .before .before .before .before .before .before .before .before .before .before .before .before .before .before .before .before .before .union-in .ensures ∙ ap (λ (m : ℕ). unionOf (c .before .before .before .before .before .before .before .before .before .before .before .before .before .before .before .before .before .before .before .before .before .before .before .before .before .before .before .before .before .before .before .before .before .before .before .before .args .role .users) m 33) (c .before .before .before .before .before .before .before .before .before .before .before .before .before .before .before .before .before .before .before .before .before .before .before .before .before .before .before .before .used-in .ensures) },
+          record { used-are = c .before .before .before .before .before .before .before .before .before .before .before .before .before .before .before .before .before .before .before .before .before .before .before .before .before .before .used-in2 .ensures; tabled = c .before .before .before .before .before .before .before .before .before .before .before .before .before .before .before .before .fill2 .ensures; all-are = c .before .before .before .before .before .before .before .before .before .before .before .before .before .before .before .before .before .before .before .before .before .before .union-in2 .ensures ∙ ap (λ (m : ℕ). unionOf (c .before .before .before .before .before .before .before .before .before .before .before .before .before .before .before .before .before .before .before .before .before .before .before .before .before .before .before .before .before .before .before .before .before .before .before .before .args .role .permissions) m 33) (c .before .before .before .before .before .before .before .before .before .before .before .before .before .before .before .before .before .before .before .before .before .before .before .before .before .before .used-in2 .ensures) },
+        ),
+        (g .indexed, g .settled, g .small),
+      ),
+    )
 
--- src/lib.rt:131:24
 cast-marks : tie.Need-cast-marks Inv-loop μ-loop
-cast-marks c = ?
+cast-marks c = omega (arith, c .before .before .before .before .before .next-mark .ensures .0 .small, c .before .before .before .before .before .next-mark .ensures .0 .most, going-room (c .before .before .before .before .before .before .before .before .before .before .before .before .before .before .before .loop .inv) (c .before .before .before .before .before .before .before .before .before .before .before .before .before .before .loop-test .taken) .2)
 
--- src/lib.rt:131:15
 add-marks : tie.Need-add-marks Inv-loop μ-loop
-add-marks c = ?
+add-marks c = omega (arith, c .before .before .before .before .before .before .before .before .before .before .before .before .before .before .loop-test .taken, c .before .before .before .before .before .before .before .before .before .before .before .before .before .before .before .before .before .before .before .before .before .before .before .before .before .before .before .before .before .before .before .before .before .before .before .before .before .before .before .before .before .before .pre .1 .few)
 
--- src/lib.rt:131:9
 mul-marks : tie.Need-mul-marks Inv-loop μ-loop
-mul-marks c = ?
+mul-marks c = omega (arith, c .before .before .before .before .before .before .before .before .before .before .before .before .before .before .loop-test .taken, c .before .before .before .before .before .before .before .before .before .before .before .before .before .before .before .before .before .before .before .before .before .before .before .before .before .before .before .before .before .before .before .before .before .before .before .before .before .before .before .before .before .before .pre .1 .few)
 
--- src/lib.rt:131:9
 slice-write-marks-2 : tie.Need-slice-write-marks-2 Inv-loop μ-loop
-slice-write-marks-2 c = ?
+slice-write-marks-2 c = omega (arith, c .before .before .before .before .before .before .before .before .before .before .before .before .before .before .loop-test .taken, c .before .before .before .before .before .before .before .before .before .before .before .before .before .before .before .loop .inv .room .for-marks)
 
--- src/lib.rt:135:9
 add-i : tie.Need-add-i Inv-loop μ-loop
-add-i c = ?
+add-i c = omega (arith, c .before .before .before .before .before .before .before .before .before .before .before .before .before .before .loop-test .taken, c .before .before .before .before .before .before .before .before .before .before .before .before .before .before .before .before .before .before .before .before .before .before .before .before .before .before .before .before .before .before .before .before .before .before .before .before .before .before .before .before .before .before .pre .1 .few)
 
--- src/lib.rt:108:5
 loop-less : tie.Need-loop-less Inv-loop μ-loop
-loop-less c = ?
+loop-less c = omega (arith, c .before .before .before .before .before .before .before .before .before .before .before .before .before .before .loop-test .taken)
 
--- src/lib.rt:108:5
 loop-again : tie.Need-loop-again Inv-loop μ-loop
-loop-again c = ?
+loop-again c =
+    let g = c .before .before .before .before .before .before .before .before .before .before .before .before .before .before .before .loop .inv in
+    let k = c .before .before .before .before .before .next-mark in
+    let r = c .before .before .before .before .before .before .before .before .before .before .before .before .before .before .before .before .before .before .before .before .before .before .before .before .before .before .before .before .before .before .before .before .before .before .before .before .before .before .before .before .before .before .args .role in
+    let named = c .before .before .before .before .before .before .before .before .before .before .before .before .before .before .before .before .before .before .before .before .with .result in
+    let en : named ≡ insert (union (usedIn (r .users)) (usedIn (r .permissions))) (r .on)
+    = c .before .before .before .before .before .before .before .before .before .before .before .before .before .before .before .before .before .before .before .before .with .ensures ∙ ap (λ (x : ℕ). insert x (r .on)) (c .before .before .before .before .before .before .before .before .before .before .before .before .before .before .before .before .before .before .before .before .before .either .ensures ∙ ap₂ union (c .before .before .before .before .before .before .before .before .before .before .before .before .before .before .before .before .before .before .before .before .before .before .before .before .before .before .before .before .before .before .before .before .before .before .used-in .ensures) (c .before .before .before .before .before .before .before .before .before .before .before .before .before .before .before .before .before .before .before .before .before .before .before .before .before .before .before .before .before .before .before .before .used-in2 .ensures)) in
+    let e = ap (keptBy r) (c .before .before .before .before .before .before .before .before .before .before .before .before .both .ensures ∙ ap (λ (x : ℕ). intersection x named) (c .before .before .before .before .before .before .before .before .before .before .before .before .before .mask-at .ensures)) ∙ named-same (r .source) (r .on) (r .users) (r .permissions) named en (c .before .before .before .before .before .before .before .before .before .before .before .before .before .before .before .before .before .before .before .before .before .before .before .before .before .before .before .before .before .before .before .before .before .before .before .before .before .before .before .before .before .before .pre .0) _ in
+    going-turn g _ _ _ (k .result) (c .before .before .before .before .before .before .before .before .before .before .before .before .before .before .loop-test .taken) e (k .ensures .0) (k .ensures .1) (k .kept .1 .1 .1 .1 .1 .1 .1 .1 .1 .1 .0) (k .kept .1 .1 .1 .1 .1 .1 .1 .1 .1 .1 .1 .0)
 
--- src/lib.rt:77:1
 same-length : tie.Need-same-length Inv-loop μ-loop
-same-length c = ?
+same-length c = c .before .loop .inv .long-pairs
 
--- src/lib.rt:77:1
 same-length-2 : tie.Need-same-length-2 Inv-loop μ-loop
-same-length-2 c = ?
+same-length-2 c = c .before .loop .inv .long-marks ∙ length-set {A = ℕ} (c .before .before .before .before .before .before .before .before .before .before .before .before .before .before .before .before .before .before .before .before .before .before .before .before .before .before .before .before .args .marks .now) 0 0
 
--- src/lib.rt:77:1
 same-length-3 : tie.Need-same-length-3 Inv-loop μ-loop
-same-length-3 c = ?
+same-length-3 c = c .before .loop .inv .long-links ∙ c .before .before .before .before .clear .kept .0
 
--- src/lib.rt:77:1
 returns : tie.Need-returns Inv-loop μ-loop
-returns c = ?
+returns c = let g = c .before .loop .inv in deriving-end (g .so-far) (g .room .for-sets) (c .loop-test .left)
 
 pub derive-spec : {M : Type 1} → statement M
 derive-spec =
@@ -148,10 +130,7 @@ derive-spec =
     clear-requires
     slice-write-marks
     loop-holds
-    mul-with
-    shared-slice-read-with
-    cast-with
-    with-requires-2
+    mask-at-requires
     both-requires
     next-mark-requires
     cast-marks
