@@ -1,21 +1,78 @@
 -- The loop that counts: what is counted so far, and what the roles from r on have, make the whole.
+--     role-rows-are, have-marks    the rows that a role's marks say are those of the rules, and every kind has a mark
+--     rows-counted                 what was counted of one role's rows
+--     Before, before-..            the loop
 -- Assumes nothing.
-use Prim.Native.Nat.{ℕ, _+_, _-_, _*_, _≤_, _<_}
-use mathlib.Core.Path.{_≡_, _∙_, ap}
-use mathlib.Core.List.{List}
+use Prim.Native.Nat.{ℕ, zero, suc, _+_, _-_, _*_, _≤_, _<_}
+use mathlib.Core.Path.{_≡_, refl, sym, _∙_, ap, ap₂}
+use mathlib.Core.List.{List, [], _∷_, map}
 use native.Mathlib.Omega.{arith}
-use lib.ListN.{length, length-append}
+use lib.ListN.{length, getD, take, length-append}
+use lib.Seq.{getD-take, length-take-le}
+use Rattle.ground.proofs.ListLaws.{all-in, at-in}
 use Rattle.rota.specs.RotaBytes.{rotaOf}
-use Rattle.derivation.specs.Rewriting.{sizeOf}
-use Rattle.derivation.specs.Roles.{entriesAt, rowsAt, entriesFrom, rowsFrom, rewriteRoles}
+use Rattle.derivation.specs.Cuts.{gaps}
+use Rattle.derivation.specs.Joined.{joinRows}
+use Rattle.derivation.specs.Kinds.{byKind, masksFrom, kindsFrom}
+use Rattle.derivation.specs.Rewriting.{fieldsOf, fields, sizeOf}
+use Rattle.derivation.specs.Roles.{rowsMarked, entriesAt, joinedAt, entriesFrom, joinedFrom, rewriteRoles}
+use Rattle.derivation.proofs.KindLaws.{kinds-most}
 use Rattle.derivation.proofs.RoleByRole.{entries-next, rows-next, entries-none, rows-none}
-use Rattle.derive.specs.declared.Count.{Count}
-use Rattle.roles.specs.Parts.{RoleDerived, RoleDerivedTo}
-use Rattle.counting.specs.Parts.{lengthWith, CountedTo}
+use Rattle.derive.proofs.DeriveLaws.{masks-length}
+use Rattle.grid.specs.Grid.{Parted}
+use Rattle.grid.proofs.LaidLaws.{fields-few}
+use Rattle.kinds.specs.Kinds.{masksOf, Numbered}
+use Rattle.roles.specs.Parts.{RoleDerived}
+use Rattle.writing.specs.Parts.{fieldMarks, HaveMarks, roleRows, runsOf, CountedRows}
+use Rattle.writing.proofs.FieldLaws.{marks-long}
+use Rattle.writing.proofs.CountLaws.{runs-rows}
+use Rattle.counting.specs.Parts.{lengthWith, Laid, CountedTo}
+use Rattle.counting.specs.declared.Count.{Count}
 
--- a limit that no role passes
-pub role-whole : {s pairs work : List ℕ} {r n : ℕ} {k : Count} → n ≤ 33345 → RoleDerivedTo 33345 s r n pairs work k → RoleDerived s r n pairs work k
-role-whole m q = q .whole (omega (arith, q .few-rows))
+take-map : (f : ℕ → ℕ) (n : ℕ) (l : List ℕ) → take n (map f l) ≡ map f (take n l)
+take-map f zero l = refl
+take-map f (suc n) [] = refl
+take-map f (suc n) (x ∷ l) = ap (λ (q : List ℕ). f x ∷ q) (take-map f n l)
+
+module _ {s : List ℕ} {N n : ℕ} {kinds sets : List ℕ} (q : Numbered s N n kinds sets) where
+  -- every kind has a mark
+  pub have-marks : (marks : List ℕ) → N ≤ length kinds → n ≤ length sets → n < length marks → HaveMarks N kinds marks
+  have-marks marks lk ls lm =
+      record {
+        long = lk;
+        below =
+            λ i h.
+            let e : length (masksFrom [] (masksOf s)) ≡ n = ap length (sym (q .sets-are)) ∙ masks-length sets n ls in
+            let k : length (kindsFrom [] (masksOf s)) ≡ N = ap length (sym (q .kinds-are)) ∙ length-take-le N kinds lk in
+            let z : getD kinds i 0 ≡ getD (kindsFrom [] (masksOf s)) i 0 = sym (getD-take N kinds i 0 h) ∙ ap (λ (l : List ℕ). getD l i 0) (q .kinds-are) in
+            omega (arith, all-in (λ (x : ℕ). x ≤ length (masksFrom [] (masksOf s))) (kindsFrom [] (masksOf s)) (kinds-most [] (masksOf s)) (at-in (kindsFrom [] (masksOf s)) i 0 (omega arith)));
+      }
+
+-- the rows that the marks of a role say are the role's
+pub role-rows-are : {s eras cells kinds sets : List ℕ} {ne nc n : ℕ} → Parted s eras ne cells nc → Numbered s (ne * nc) n kinds sets → {r : ℕ} {pairs marks : List ℕ} {d : ℕ}
+    → RoleDerived s r n pairs marks d → (base : ℕ) → roleRows base eras ne cells nc (fieldMarks marks kinds) ≡ joinedAt (rotaOf s) r base
+unfolding roleRows fieldMarks joinedAt fields
+role-rows-are {s} {eras} {cells} {kinds} {ne = ne} {nc} g q {marks = marks} t base =
+    ap joinRows
+    (ap₂ (λ (x y : List ℕ). rowsMarked base (fieldsOf (gaps x) (gaps y)) (take (ne * nc) (map (byKind marks) kinds))) (g .era-cuts .are) (g .cell-cuts .are)
+    ∙ ap (rowsMarked base (fields (rotaOf s))) (take-map (byKind marks) (ne * nc) kinds ∙ ap (map (byKind marks)) (q .kinds-are))
+    ∙ t .rows-are base)
+
+-- what was counted of a role's rows: no more than it has, and all where they are not over the limit
+pub record RowsTo (limit : ℕ) (s : List ℕ) (r rows : ℕ) : Type 0 where
+  pub few : rows ≤ 33345
+  pub least : (base : ℕ) → rows ≤ length (joinedAt (rotaOf s) r base)
+  pub whole : rows ≤ limit → (base : ℕ) → rows ≡ length (joinedAt (rotaOf s) r base)
+
+pub rows-counted : {s : List ℕ} {ne nc n : ℕ} {kinds sets : List ℕ} → Laid s ne nc n kinds sets → {r : ℕ} {pairs marks : List ℕ} {d : ℕ} → RoleDerived s r n pairs marks d
+    → (limit rows : ℕ) → CountedRows limit ne nc (fieldMarks marks kinds) rows → RowsTo limit s r rows
+rows-counted {s} {ne} {nc} {n} {kinds} {sets} l {r} {pairs} {marks} {d} t limit rows c =
+    record { few = omega (arith, c .most, fields-few (l .parted)); least = λ base. omega (arith, c .least, all base); whole = λ h base. c .whole h ∙ sym (all base) }
+  where
+    all : (base : ℕ) → length (joinedAt (rotaOf s) r base) ≡ runsOf ne nc (fieldMarks marks kinds)
+    all base =
+        ap length (sym (role-rows-are (l .parted) (l .numbered) t base))
+        ∙ runs-rows base ne nc (l .eras) (l .cells) (fieldMarks marks kinds) (l .parted .era-cuts) (l .parted .cell-cuts) (omega (arith, marks-long marks kinds, l .kinds-long))
 
 -- of the roles from `first` to `end`, d derived roles and so many rows before role r
 pub record Before (s : List ℕ) (first end d rows r : ℕ) : Type 0 where
@@ -24,7 +81,7 @@ pub record Before (s : List ℕ) (first end d rows r : ℕ) : Type 0 where
   pub few : d ≤ 33345 * r
   pub few-rows : rows ≤ 33345 * r
   pub entries : d + length (entriesFrom (rotaOf s) (end - r) r) ≡ length (rewriteRoles (rotaOf s) first end .entries)
-  pub rows-left : rows + length (rowsFrom (rotaOf s) (end - r) r d) ≡ length (rewriteRoles (rotaOf s) first end .rows)
+  pub rows-left : rows + length (joinedFrom (rotaOf s) (end - r) r d) ≡ length (rewriteRoles (rotaOf s) first end .rows)
 
 module _ (s : List ℕ) (first end : ℕ) where
   pub before-none : first ≤ end → end ≤ 32 → Before s first end 0 0 first
@@ -37,34 +94,34 @@ module _ (s : List ℕ) (first end : ℕ) where
         ≡ length (entriesAt (rotaOf s) r) + length (entriesFrom (rotaOf s) (end - (r + 1)) (r + 1))
     entries-split h = ap length (entries-next (rotaOf s) end r h) ∙ length-append (entriesAt (rotaOf s) r) _
 
-    rows-split : r < end → length (rowsFrom (rotaOf s) (end - r) r d)
-        ≡ length (rowsAt (rotaOf s) r d) + length (rowsFrom (rotaOf s) (end - (r + 1)) (r + 1) (d + length (entriesAt (rotaOf s) r)))
-    rows-split h = ap length (rows-next (rotaOf s) end r d h) ∙ length-append (rowsAt (rotaOf s) r d) _
+    rows-split : r < end → length (joinedFrom (rotaOf s) (end - r) r d)
+        ≡ length (joinedAt (rotaOf s) r d) + length (joinedFrom (rotaOf s) (end - (r + 1)) (r + 1) (d + length (entriesAt (rotaOf s) r)))
+    rows-split h = ap length (rows-next (rotaOf s) end r d h) ∙ length-append (joinedAt (rotaOf s) r d) _
 
-    pub before-next : (n : ℕ) (pairs work : List ℕ) (k : Count) → r < end → n ≤ 33345 → RoleDerived s r n pairs work k
-        → Before s first end (d + k .entries) (rows + k .rows) (r + 1)
-    before-next n pairs work k h m q =
+    pub before-next : (n : ℕ) {pairs marks : List ℕ} (m k limit : ℕ) → r < end → n ≤ 33345 → RoleDerived s r n pairs marks m → RowsTo limit s r k → k ≤ limit
+        → Before s first end (d + m) (rows + k) (r + 1)
+    before-next n m k limit h few q t l =
         let f = rw (← (q .entry-count)) at (rows-split h) in
         record {
           within = omega arith;
           few-roles = b .few-roles;
           few = omega (arith, b .few, q .few);
-          few-rows = omega (arith, b .few-rows, q .few-rows);
+          few-rows = omega (arith, b .few-rows, t .few);
           entries = omega (arith, b .entries, entries-split h, q .entry-count);
-          rows-left = omega (arith, b .rows-left, f, q .row-count d);
+          rows-left = omega (arith, b .rows-left, f, t .whole l d);
         }
 
     -- within a role there are too many already
-    pub counted-stop : (limit n : ℕ) (pairs work : List ℕ) (k : Count) → r < end → n ≤ 33345 → RoleDerivedTo limit s r n pairs work k
-        → (room : ℕ) → room < lengthWith (d + k .entries) (rows + k .rows)
-        → CountedTo (rewriteRoles (rotaOf s) first end) room (record { entries = d + k .entries; rows = rows + k .rows })
+    pub counted-stop : (n : ℕ) {pairs marks : List ℕ} (m k limit : ℕ) → r < end → n ≤ 33345 → RoleDerived s r n pairs marks m → RowsTo limit s r k
+        → (room : ℕ) → room < lengthWith (d + m) (rows + k)
+        → CountedTo (rewriteRoles (rotaOf s) first end) room (record { entries = d + m; rows = rows + k })
     unfolding sizeOf
-    counted-stop limit n pairs work k h m q room over =
+    counted-stop n m k limit h few q t room over =
         record {
           few = omega (arith, b .few-roles, b .few, q .few);
-          few-rows = omega (arith, b .few-roles, b .few-rows, q .few-rows);
+          few-rows = omega (arith, b .few-roles, b .few-rows, t .few);
           exact = λ l. absurd (omega arith);
-          over = λ l. omega (arith, b .entries, b .rows-left, entries-split h, rows-split h, q .entries-least, q .rows-least d);
+          over = λ l. omega (arith, b .entries, b .rows-left, entries-split h, rows-split h, q .entry-count, t .least d);
         }
 
     size-least : lengthWith d rows ≤ sizeOf (rewriteRoles (rotaOf s) first end)

@@ -4,10 +4,13 @@ ghost use Rattle.rota.specs.Inside.{Located};
 ghost use Rattle.rota.specs.RotaBytes.{rolesOf, rotaOf};
 ghost use Rattle.derivation.specs.Roles.{rewriteRoles};
 ghost use Rattle.derive.specs.Derive.{Room};
-ghost use Rattle.roles.specs.Parts.{MasksAre};
-ghost use Rattle.counting.specs.Parts.{CountedTo};
-use derive::Count;
+ghost use Rattle.counting.specs.Parts.{Laid, CountedTo};
 use rota::Layout;
+
+pub struct Count {
+    pub entries: usize,
+    pub rows: usize,
+}
 
 // Counts the derived roles and rows of the roles from `first` on, up to `end`. It stops as soon as a table of so many is longer than the room, since
 // the length only grows: within a role by its rows alone, of 16 bytes each.
@@ -16,23 +19,27 @@ pub fn count_all(
     l: Layout,
     first: u8,
     end: u8,
-    masks: &[u64],
+    kinds: &[u16],
+    ne: usize,
+    nc: usize,
+    sets: &[u32],
     n: usize,
     room: usize,
     pairs: &mut [u64],
-    work: &mut [u16],
+    marks: &mut [u16],
+    links: &mut [u16],
+    w: usize,
 ) -> Count
     requires { ⌜ Located (now s) l × (first ≤ end) × (end ≤ rolesOf (now s)) ⌝ }
-    requires { ⌜ Room n (now masks) (now pairs) (now work) × MasksAre (now s) (now masks) n ⌝ }
+    requires { ⌜ Laid (now s) ne nc n (now kinds) (now sets) × Room n w (now sets) (now pairs) (now marks) (now links) ⌝ }
     ensures { λ k. ⌜ CountedTo (rewriteRoles (rotaOf (now (s .entry))) first end) room k ⌝ }
 {
     let mut d = 0;
     let mut rows = 0;
     let mut r = first;
     while r < end {
-        let k = roles::derive_role(s, l, r, masks, n, room / 16, pairs, work);
-        d += k.entries;
-        rows += k.rows;
+        d += roles::derive_role(s, l, r, sets, n, pairs, marks, links, w);
+        rows += writing::count_rows(kinds, ne, nc, marks, room / 16);
         if room < 16 + 17 * d + 16 * rows {
             return Count { entries: d, rows };
         }

@@ -29,6 +29,7 @@ use Rattle.marking.specs.Mark.{Marked}
 use Rattle.marking.proofs.MarkLaws.{grown-yes, grown-no}
 use Rattle.derive.specs.declared.Step.{Step}
 use Rattle.derive.specs.Derive.{Settled, Stepped, Room, Derived}
+use Rattle.derive.proofs.ScratchLaws.{room-kept}
 
 -- ---- what is settled
 
@@ -93,7 +94,7 @@ module _ (sets : List ℕ) (n : ℕ) (h : n ≤ length sets) where
   taken : length (take n sets) ≡ n
   taken = length-take-le n sets h
 
-  masks-length : length (masksIn sets n) ≡ n
+  pub masks-length : length (masksIn sets n) ≡ n
   unfolding masksIn
   masks-length = length-map (take n sets) (λ (x : ℕ). insert x 32) ∙ taken
 
@@ -164,19 +165,6 @@ module _ {role : Role} {sets : List ℕ} {n : ℕ} {pairs marks : List ℕ} {d i
 pub kept-nothing : (role : Role) → keptBy role 0 ≡ none
 unfolding keptBy setsIn
 kept-nothing role = ap (λ (b : Bool). keptWith (role .source) (pick b (setsMade (unionOf (role .users) 0 33) (unionOf (role .permissions) 0 33)) (setsMade 0 0))) (has-none (role .on))
-
-room-kept : {n w : ℕ} {sets pairs marks links pairs′ marks′ links′ : List ℕ} → Room n w sets pairs marks links → length pairs′ ≡ length pairs
-    → length marks′ ≡ length marks → length links′ ≡ length links → Room n w sets pairs′ marks′ links′
-room-kept r ep em el =
-    record {
-      few = r .few;
-      for-sets = r .for-sets;
-      for-pairs = omega (arith, r .for-pairs);
-      for-marks = omega (arith, r .for-marks);
-      for-links = omega (arith, r .for-links);
-      some = r .some;
-      trees = r .trees;
-    }
 
 -- the loop with its index, and the mask before
 pub record Going (role : Role) (sets : List ℕ) (n w a b : ℕ) (pairs₀ marks₀ links₀ pairs marks links : List ℕ) (d last mark i : ℕ) : Type 0 where

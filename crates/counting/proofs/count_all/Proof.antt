@@ -1,70 +1,84 @@
--- Counts so far are those of the roles so far; where they exceed the room the whole table does too, since it only grows.
 use native.Mathlib.Omega.{arith}
 use mathlib.Core.Path.{refl, _∙_}
-use Prim.Native.Nat.{_-_, _≤_}
-use Rattle.counting.proofs.CountLaws.{Before, before-none, before-next, counted-stop, counted-all}
+use Prim.Native.Nat.{_-_}
 use Rattle.roles.proofs.LocatedLaws.{roles-are}
-use Rattle.derive.proofs.ScratchLaws.{Lent, lent-start, lent-on, room-kept}
+use Rattle.derive.proofs.ScratchLaws.{Lent, lent-start, lent-on, room-lent}
+use Rattle.counting.proofs.CountLaws.{have-marks, rows-counted, Before, before-none, before-next, counted-stop, counted-all}
 use Rattle.counting.proofs.count_all.Statement.{statement}
 use Rattle.counting.proofs.count_all.Tie as tie
 
 abbrev Inv-loop : tie.InvT-loop
-Inv-loop s l first end masks n room pairs₀ work₀ d₀ rows₀ r₀ pairs work d rows r = Before s first end d rows r × Lent pairs₀ work₀ pairs work × (n ≤ 33345)
+Inv-loop s l first end kinds ne nc sets n room pairs₀ marks₀ links₀ w d₀ rows₀ r₀ pairs marks links d rows r = Before s first end d rows r × Lent pairs₀ marks₀ links₀ pairs marks links
 
 abbrev μ-loop : tie.MeasureT-loop
-μ-loop s l first end masks n room pairs₀ work₀ d₀ rows₀ r₀ pairs work d rows r = end - r
+μ-loop s l first end kinds ne nc sets n room pairs₀ marks₀ links₀ w d₀ rows₀ r₀ pairs marks links d rows r = end - r
 
 loop-holds : tie.Need-loop-holds Inv-loop μ-loop
-loop-holds c = let p = c .before .before .before .before .pre in let a = c .before .before .before .before .args in (before-none _ _ _ (p .0 .1) (omega (arith, roles-are (a .s .now) (a .l) (p .0 .0), p .0 .2)), lent-start _ _, p .1 .0 .few)
+loop-holds c = let p = c .before .before .before .before .before .before .pre .0 in let a = c .before .before .before .before .before .before .args in (before-none _ _ _ (p .1) (omega (arith, roles-are (a .s .now) (a .l) (p .0), p .2)), lent-start _ _ _)
 
 derive-role-requires : tie.Need-derive-role-requires Inv-loop μ-loop
-derive-role-requires c κs = let p = c .before .before .before .before .before .before .before .before .pre in (p .0 .0, omega (arith, p .0 .2, c .before .before .loop-test .taken), room-kept (c .before .before .before .loop .inv .1) refl (p .1 .0), p .1 .1)
+derive-role-requires c κs = let p = c .before .before .before .before .before .before .before .before .before .before .before .pre in (p .0 .0, omega (arith, p .0 .2, c .before .before .before .loop-test .taken), room-lent (c .before .before .before .before .loop .inv .1) (p .1 .1), p .1 .0 .numbered .sets-are)
 
 add-d : tie.Need-add-d Inv-loop μ-loop
-add-d c = let i = c .before .before .before .before .before .before .before .before .before .loop .inv in omega (arith, i .0 .few, i .0 .within, i .0 .few-roles, i .2, c .before .before .before .before .before .derive-role .ensures .few)
+add-d c = let b = c .before .before .before .before .before .before .before .before .before .before .before .loop .inv .0 in omega (arith, b .few, b .within, b .few-roles, c .before .before .before .before .before .before .before .before .before .before .before .before .before .before .before .before .before .before .pre .1 .1 .few, c .before .before .before .before .before .before .derive-role .ensures .few)
+
+count-rows-requires : tie.Need-count-rows-requires Inv-loop μ-loop
+count-rows-requires c κs = let p = c .before .before .before .before .before .before .before .before .before .before .before .before .before .before .before .before .before .before .before .pre .1 in let k = c .before .before .before .before .before .before .before .derive-role in have-marks (p .0 .numbered) _ (p .0 .kinds-long) (p .1 .for-sets) (omega (arith, p .1 .for-marks, c .before .before .before .before .before .before .before .before .before .before .before .before .loop .inv .1 .of-marks, k .kept .1 .1 .1 .1 .1 .1 .0))
 
 add-rows : tie.Need-add-rows Inv-loop μ-loop
-add-rows c = let i = c .before .before .before .before .before .before .before .before .before .before .loop .inv in omega (arith, i .0 .few-rows, i .0 .within, i .0 .few-roles, i .2, c .before .before .before .before .before .before .derive-role .ensures .few-rows)
+add-rows c = let b = c .before .before .before .before .before .before .before .before .before .before .before .before .before .loop .inv .0 in omega (arith, b .few-rows, b .within, b .few-roles, rows-counted (c .before .before .before .before .before .before .before .before .before .before .before .before .before .before .before .before .before .before .before .before .pre .1 .0) (c .before .before .before .before .before .before .before .before .derive-role .ensures) _ _ (c .count-rows .ensures) .few)
 
 mul-if1 : tie.Need-mul-if1 Inv-loop μ-loop
-mul-if1 c = let i = c .before .before .before .before .before .before .before .before .before .before .loop .inv in omega (arith, i .0 .few, i .0 .within, i .0 .few-roles, i .2, c .before .before .before .before .before .before .derive-role .ensures .few)
+mul-if1 c = let b = c .before .before .before .before .before .before .before .before .before .before .before .before .before .loop .inv .0 in omega (arith, b .few, b .within, b .few-roles, c .before .before .before .before .before .before .before .before .before .before .before .before .before .before .before .before .before .before .before .before .pre .1 .1 .few, c .before .before .before .before .before .before .before .before .derive-role .ensures .few)
 
 add-if1 : tie.Need-add-if1 Inv-loop μ-loop
-add-if1 c = let i = c .before .before .before .before .before .before .before .before .before .before .loop .inv in omega (arith, i .0 .few, i .0 .within, i .0 .few-roles, i .2, c .before .before .before .before .before .before .derive-role .ensures .few)
+add-if1 c = let b = c .before .before .before .before .before .before .before .before .before .before .before .before .before .loop .inv .0 in omega (arith, b .few, b .within, b .few-roles, c .before .before .before .before .before .before .before .before .before .before .before .before .before .before .before .before .before .before .before .before .pre .1 .1 .few, c .before .before .before .before .before .before .before .before .derive-role .ensures .few)
 
 mul-if1-2 : tie.Need-mul-if1-2 Inv-loop μ-loop
-mul-if1-2 c = let i = c .before .before .before .before .before .before .before .before .before .before .loop .inv in omega (arith, i .0 .few-rows, i .0 .within, i .0 .few-roles, i .2, c .before .before .before .before .before .before .derive-role .ensures .few-rows)
+mul-if1-2 c = let b = c .before .before .before .before .before .before .before .before .before .before .before .before .before .loop .inv .0 in omega (arith, b .few-rows, b .within, b .few-roles, rows-counted (c .before .before .before .before .before .before .before .before .before .before .before .before .before .before .before .before .before .before .before .before .pre .1 .0) (c .before .before .before .before .before .before .before .before .derive-role .ensures) _ _ (c .count-rows .ensures) .few)
 
 add-if1-2 : tie.Need-add-if1-2 Inv-loop μ-loop
-add-if1-2 c = let i = c .before .before .before .before .before .before .before .before .before .before .loop .inv in omega (arith, i .0 .few, i .0 .few-rows, i .0 .within, i .0 .few-roles, i .2, c .before .before .before .before .before .before .derive-role .ensures .few, c .before .before .before .before .before .before .derive-role .ensures .few-rows)
+add-if1-2 c = let b = c .before .before .before .before .before .before .before .before .before .before .before .before .before .loop .inv .0 in omega (arith, b .few, b .few-rows, b .within, b .few-roles, c .before .before .before .before .before .before .before .before .before .before .before .before .before .before .before .before .before .before .before .before .pre .1 .1 .few, c .before .before .before .before .before .before .before .before .derive-role .ensures .few, rows-counted (c .before .before .before .before .before .before .before .before .before .before .before .before .before .before .before .before .before .before .before .before .pre .1 .0) (c .before .before .before .before .before .before .before .before .derive-role .ensures) _ _ (c .count-rows .ensures) .few)
 
 same-length : tie.Need-same-length Inv-loop μ-loop
-same-length c = let k = c .before .before .before .before .before .before .before .derive-role in k .kept .1 .1 .1 .1 .1 .1 .0 ∙ c .before .before .before .before .before .before .before .before .before .before .before .loop .inv .1 .of-pairs
+same-length c = c .before .before .before .before .before .before .before .before .before .derive-role .kept .1 .1 .1 .1 .1 .0 ∙ c .before .before .before .before .before .before .before .before .before .before .before .before .before .before .loop .inv .1 .of-pairs
 
 same-length-2 : tie.Need-same-length-2 Inv-loop μ-loop
-same-length-2 c = let k = c .before .before .before .before .before .before .before .derive-role in k .kept .1 .1 .1 .1 .1 .1 .1 .0 ∙ c .before .before .before .before .before .before .before .before .before .before .before .loop .inv .1 .of-work
-
-returns : tie.Need-returns Inv-loop μ-loop
-returns c = let l = c .before .before .before .before .before .before .before .before .before .before .before .loop in counted-stop _ _ _ (l .d) (l .rows) (l .r) (l .inv .0) _ _ _ _ _ (c .before .before .before .before .before .before .before .before .before .before .loop-test .taken) (l .inv .2) (c .before .before .before .before .before .before .before .derive-role .ensures) _ (c .if1 .taken)
-
-add-r : tie.Need-add-r Inv-loop μ-loop
-add-r c = omega (arith, c .before .before .before .before .before .before .before .before .before .before .loop-test .taken, c .before .before .before .before .before .before .before .before .before .before .before .loop .inv .0 .few-roles)
-
-loop-less : tie.Need-loop-less Inv-loop μ-loop
-loop-less c = omega (arith, c .before .before .before .before .before .before .before .before .before .before .loop-test .taken)
-
-loop-again : tie.Need-loop-again Inv-loop μ-loop
-loop-again c = let l = c .before .before .before .before .before .before .before .before .before .before .before .loop in let k = c .before .before .before .before .before .before .before .derive-role in (
-  before-next _ _ _ (l .d) (l .rows) (l .r) (l .inv .0) _ _ _ _ (c .before .before .before .before .before .before .before .before .before .before .loop-test .taken) (l .inv .2) (k .ensures .whole (omega (arith, c .if1 .left))),
-  lent-on (l .inv .1) (k .kept .1 .1 .1 .1 .1 .1 .0) (k .kept .1 .1 .1 .1 .1 .1 .1 .0),
-  l .inv .2,
-)
+same-length-2 c = c .before .before .before .before .before .before .before .before .before .derive-role .kept .1 .1 .1 .1 .1 .1 .0 ∙ c .before .before .before .before .before .before .before .before .before .before .before .before .before .before .loop .inv .1 .of-marks
 
 same-length-3 : tie.Need-same-length-3 Inv-loop μ-loop
-same-length-3 c = c .before .loop .inv .1 .of-pairs
+same-length-3 c = c .before .before .before .before .before .before .before .before .before .derive-role .kept .1 .1 .1 .1 .1 .1 .1 .0 ∙ c .before .before .before .before .before .before .before .before .before .before .before .before .before .before .loop .inv .1 .of-links
+
+returns : tie.Need-returns Inv-loop μ-loop
+returns c =
+    let p = c .before .before .before .before .before .before .before .before .before .before .before .before .before .before .before .before .before .before .before .before .before .pre .1 in
+    let l = c .before .before .before .before .before .before .before .before .before .before .before .before .before .before .loop in
+    let k = c .before .before .before .before .before .before .before .before .before .derive-role in
+    counted-stop _ _ _ (l .d) (l .rows) (l .r) (l .inv .0) _ (k .result) _ _ (c .before .before .before .before .before .before .before .before .before .before .before .before .before .loop-test .taken) (p .1 .few) (k .ensures) (rows-counted (p .0) (k .ensures) _ _ (c .before .count-rows .ensures)) _ (c .if1 .taken)
+
+add-r : tie.Need-add-r Inv-loop μ-loop
+add-r c = omega (arith, c .before .before .before .before .before .before .before .before .before .before .before .before .before .loop-test .taken, c .before .before .before .before .before .before .before .before .before .before .before .before .before .before .loop .inv .0 .few-roles)
+
+loop-less : tie.Need-loop-less Inv-loop μ-loop
+loop-less c = omega (arith, c .before .before .before .before .before .before .before .before .before .before .before .before .before .loop-test .taken)
+
+loop-again : tie.Need-loop-again Inv-loop μ-loop
+loop-again c =
+    let p = c .before .before .before .before .before .before .before .before .before .before .before .before .before .before .before .before .before .before .before .before .before .pre .1 in
+    let l = c .before .before .before .before .before .before .before .before .before .before .before .before .before .before .loop in
+    let k = c .before .before .before .before .before .before .before .before .before .derive-role in (
+      before-next _ _ _ (l .d) (l .rows) (l .r) (l .inv .0) _ (k .result) _ _ (c .before .before .before .before .before .before .before .before .before .before .before .before .before .loop-test .taken) (p .1 .few) (k .ensures) (rows-counted (p .0) (k .ensures) _ _ (c .before .count-rows .ensures)) (omega (arith, c .if1 .left)),
+      lent-on (l .inv .1) (k .kept .1 .1 .1 .1 .1 .0) (k .kept .1 .1 .1 .1 .1 .1 .0) (k .kept .1 .1 .1 .1 .1 .1 .1 .0),
+    )
 
 same-length-4 : tie.Need-same-length-4 Inv-loop μ-loop
-same-length-4 c = c .before .loop .inv .1 .of-work
+same-length-4 c = c .before .loop .inv .1 .of-pairs
+
+same-length-5 : tie.Need-same-length-5 Inv-loop μ-loop
+same-length-5 c = c .before .loop .inv .1 .of-marks
+
+same-length-6 : tie.Need-same-length-6 Inv-loop μ-loop
+same-length-6 c = c .before .loop .inv .1 .of-links
 
 returns-2 : tie.Need-returns-2 Inv-loop μ-loop
 returns-2 c = let l = c .before .loop in counted-all _ _ _ (l .d) (l .rows) (l .r) (l .inv .0) _ (omega (arith, l .inv .0 .within, c .loop-test .left))
@@ -78,6 +92,7 @@ count-all-spec =
     loop-holds
     derive-role-requires
     add-d
+    count-rows-requires
     add-rows
     mul-if1
     add-if1
@@ -85,10 +100,12 @@ count-all-spec =
     add-if1-2
     same-length
     same-length-2
+    same-length-3
     returns
     add-r
     loop-less
     loop-again
-    same-length-3
     same-length-4
+    same-length-5
+    same-length-6
     returns-2)

@@ -12,7 +12,7 @@ cast-h : tie.Need-cast-h
 cast-h c = search needs
 
 cell-masks-requires : tie.Need-cell-masks-requires
-cell-masks-requires c κs = let p = c .before .before .before .before .before .before .before .before .before .before .before .before .pre .0 in (p .0 .accepted, hours-at _ _ (p .0), counted _ _ (p .0) .hours, omega (arith, p .1 .cell-cuts .long), p .2)
+cell-masks-requires c κs = let p = c .before .before .before .before .before .before .before .before .before .before .before .before .pre .0 in (p .0 .accepted, hours-at _ _ (p .0), counted _ _ (p .0) .hours, omega (arith, p .1 .cell-cuts .long), p .2, p .1 .cell-cuts .rise)
 
 clear-requires : tie.Need-clear-requires
 clear-requires c κs = omega (arith, c .before .before .before .before .before .before .before .before .before .before .before .before .before .before .before .before .pre .1 .0 .for-links)
