@@ -24,7 +24,7 @@ use Rattle.rota.specs.Inside.{Located}
 use Rattle.area.specs.Parts.{HeaderFits, started, placedOutcome, placedArea}
 use Rattle.counting.specs.Parts.{lengthWith, CountedTo}
 use Rattle.area.proofs.AnswerLaws.{too-long, written}
-use Rattle.derive.specs.declared.Count.{Count}
+use Rattle.counting.specs.declared.Count.{Count}
 use Rattle.rota.proofs.LocatedLaws.{fine, counted}
 use Rattle.writing.proofs.WriteLaws.{entry-long, row-long, three-runs}
 

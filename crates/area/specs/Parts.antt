@@ -1,5 +1,5 @@
 -- What the steps of the rewriting promise one another: a table put into an area.
-use Prim.Native.Nat.{ℕ, _<_}
+use Prim.Native.Nat.{ℕ, _+_, _*_, _≤_, _<_}
 use mathlib.Core.List.{List, _++_}
 use lib.Dec.{ltb, leb}
 use lib.ListN.{length, drop}
@@ -31,3 +31,16 @@ pub record HeaderFits (n : Counts) : Type 0 where
   pub users : n .users < 256
   pub permissions : n .permissions < 256
   pub roles : n .roles < 65536
+
+-- lent scratch with a place for each of n fields and of nc cells, and for `most` trees
+pub record Scratch (n nc most : ℕ) (held row kinds masks pairs marks links : List ℕ) : Type 0 where
+  pub few : n ≤ 33345
+  pub for-held : nc ≤ length held
+  pub for-row : nc ≤ length row
+  pub for-kinds : n ≤ length kinds
+  pub for-masks : n ≤ length masks
+  pub for-pairs : 2 * n ≤ length pairs
+  pub for-marks : n < length marks
+  pub for-links : most + 2 * n ≤ length links
+  pub some : 0 < most
+  pub trees : most ≤ 16384

@@ -1,18 +1,18 @@
 // The table in the area, by way of lent scratch: written where it fits, else nothing is.
 ghost use mathlib.Core.Path.{_≡_};
-ghost use Prim.Native.Nat.{_*_, _≤_};
+ghost use Prim.Native.Nat.{_*_, _≤_, _<_};
 ghost use lib.ListN.{length};
 ghost use Rattle.rota.specs.Inside.{Located};
 ghost use Rattle.rota.specs.RotaBytes.{rolesOf, rotaOf};
 ghost use Rattle.derivation.specs.Roles.{rewriteRoles};
 ghost use Rattle.derive.specs.Derive.{Room};
-ghost use Rattle.grid.specs.Grid.{Divided, Laid};
+ghost use Rattle.grid.specs.Grid.{Parted};
+ghost use Rattle.kinds.specs.Kinds.{Numbered};
 ghost use Rattle.counting.specs.Parts.{CountedTo};
 ghost use lib.Dec.{leb};
-ghost use Rattle.area.specs.Parts.{HeaderFits, started, placedOutcome, placedArea};
+ghost use Rattle.area.specs.Parts.{HeaderFits, Scratch, started, placedOutcome, placedArea};
 ghost use Rattle.area.specs.Answers.{writtenGiven};
-use derive::Count;
-use grid::Division;
+use counting::Count;
 use rota::Layout;
 
 // The numbers of derived roles and of rows, and the length, of a table that was written; or a refusal.
@@ -45,30 +45,56 @@ fn write_table(
     end: u8,
     out: &mut [u8],
     k: Count,
-    division: Division,
-    masks: &[u64],
+    eras: &[u32],
+    ne: usize,
+    cells: &[u32],
+    nc: usize,
+    kinds: &[u16],
+    masks: &[u32],
+    n: usize,
     pairs: &mut [u64],
-    work: &mut [u16],
+    marks: &mut [u16],
+    links: &mut [u16],
+    w: usize,
 ) -> Rewritten
     requires { ⌜ Located (now s) l × (first ≤ end) × (end ≤ rolesOf (now s)) × CountedTo (rewriteRoles (rotaOf (now s)) first end) (length (now out)) k ⌝ }
-    requires { ⌜ Laid (now s) division (now masks) × Room (division .«era_count» * division .«cell_count») (now masks) (now pairs) (now work) ⌝ }
+    requires { ⌜ Parted (now s) (now eras) ne (now cells) nc × Numbered (now s) (ne * nc) n (now kinds) (now masks) × (ne * nc ≤ length (now kinds))
+        × Room n w (now masks) (now pairs) (now marks) (now links) ⌝ }
     ensures { λ r. ⌜ (writtenGiven r ≡ placedOutcome (rewriteRoles (rotaOf (now (s .entry))) first end) (length (now (out .entry))))
         × (now (out .exit) ≡ placedArea (rewriteRoles (rotaOf (now (s .entry))) first end) (now (out .entry))) ⌝ }
 {
     let d = k.entries;
     let rows = k.rows;
     let size = 16 + 17 * d + 16 * rows;
-    let n = l.counts;
+    let c = l.counts;
     let header = table::Counts {
-        cycle: n.cycle,
-        users: n.users,
-        permissions: n.permissions,
-        roles: n.roles,
+        cycle: c.cycle,
+        users: c.users,
+        permissions: c.permissions,
+        roles: c.roles,
         derived: d as u32,
         rows: rows as u32,
     };
     if start_table(out, header, size) {
-        filling::write_all(s, l, first, end, out, d, division, masks, pairs, work);
+        filling::write_all(
+            s,
+            l,
+            first,
+            end,
+            out,
+            d,
+            eras,
+            ne,
+            cells,
+            nc,
+            kinds,
+            masks,
+            n,
+            pairs,
+            marks,
+            links,
+            w,
+        );
         return Rewritten::Wrote {
             derived: d as u32,
             rows: rows as u32,
@@ -78,6 +104,20 @@ fn write_table(
     Rewritten::Refused(20)
 }
 
+// The number of trees of an index for n keys: as many, but one at least and `most` at most.
+fn trees(n: usize, most: usize) -> usize
+    requires { ⌜ 0 < most ⌝ }
+    ensures { λ w. ⌜ (0 < w) × (w ≤ most) ⌝ }
+{
+    if n == 0 {
+        return 1;
+    }
+    if n < most {
+        return n;
+    }
+    most
+}
+
 // Rewrites the roles from `first` on, up to `end`, of a rota that is read and divided, in lent scratch with a place for each field.
 pub fn rewrite_with(
     s: &[u8],
@@ -85,18 +125,74 @@ pub fn rewrite_with(
     first: u8,
     end: u8,
     out: &mut [u8],
-    division: Division,
-    masks: &mut [u64],
+    eras: &[u32],
+    ne: usize,
+    cells: &[u32],
+    nc: usize,
+    held: &mut [u64],
+    row: &mut [u64],
+    kinds: &mut [u16],
+    masks: &mut [u32],
     pairs: &mut [u64],
-    work: &mut [u16],
+    marks: &mut [u16],
+    links: &mut [u16],
+    most: usize,
 ) -> Rewritten
-    requires { ⌜ Located (now s) l × (first ≤ end) × (end ≤ rolesOf (now s)) ⌝ }
-    requires { ⌜ Divided (now s) division × Room (division .«era_count» * division .«cell_count») (now masks) (now pairs) (now work) ⌝ }
+    requires { ⌜ Located (now s) l × (first ≤ end) × (end ≤ rolesOf (now s)) × Parted (now s) (now eras) ne (now cells) nc ⌝ }
+    requires { ⌜ Scratch (ne * nc) nc most (now held) (now row) (now kinds) (now masks) (now pairs) (now marks) (now links) ⌝ }
     ensures { λ r. ⌜ (writtenGiven r ≡ placedOutcome (rewriteRoles (rotaOf (now (s .entry))) first end) (length (now (out .entry))))
         × (now (out .exit) ≡ placedArea (rewriteRoles (rotaOf (now (s .entry))) first end) (now (out .entry))) ⌝ }
 {
-    grid::lay(s, l, division, masks);
-    let fields = division.era_count * division.cell_count;
-    let k = counting::count_all(s, l, first, end, masks, fields, out.len(), pairs, work);
-    write_table(s, l, first, end, out, k, division, masks, pairs, work)
+    let all = trees(ne * nc, most);
+    let n = kinds::number(
+        s,
+        l,
+        eras,
+        ne,
+        cells,
+        nc,
+        held,
+        row,
+        kinds,
+        masks,
+        pairs,
+        links,
+        all,
+    );
+    let w = trees(n, most);
+    let k = counting::count_all(
+        s,
+        l,
+        first,
+        end,
+        kinds,
+        ne,
+        nc,
+        masks,
+        n,
+        out.len(),
+        pairs,
+        marks,
+        links,
+        w,
+    );
+    write_table(
+        s,
+        l,
+        first,
+        end,
+        out,
+        k,
+        eras,
+        ne,
+        cells,
+        nc,
+        kinds,
+        masks,
+        n,
+        pairs,
+        marks,
+        links,
+        w,
+    )
 }

@@ -13,30 +13,17 @@ use Rattle.endian.proofs.StandsLaws.{joined-length}
 use Rattle.rota.specs.RotaBytes.{rotaOf}
 use Rattle.table.specs.Table.{Entry, Row, Table}
 use Rattle.table.specs.TableBytes.{entryBytes, rowBytes}
-use Rattle.derivation.specs.Cuts.{gaps}
-use Rattle.derivation.specs.Rewriting.{fieldsOf, fields, sizeOf}
-use Rattle.derivation.specs.Roles.{entriesAt, rowsAt, entriesFrom, rowsFrom, rewriteRoles, rowsMarked}
+use Rattle.derivation.specs.Rewriting.{sizeOf}
+use Rattle.derivation.specs.Roles.{entriesAt, joinedAt, entriesFrom, joinedFrom, rewriteRoles}
 use Rattle.derivation.proofs.RoleByRole.{entries-next, rows-next, entries-none, rows-none}
 use Rattle.index.specs.Entries.{entriesTo}
-use Rattle.derive.specs.declared.Count.{Count}
-use Rattle.grid.specs.Grid.{Cuts, Laid}
-use Rattle.grid.specs.declared.Division.{Division}
+use Rattle.grid.specs.Grid.{Cuts}
 use Rattle.roles.specs.Parts.{RoleDerived}
-use Rattle.writing.specs.Parts.{roleRows}
 use Rattle.writing.proofs.WriteLaws.{entry-long, row-long}
 
--- the cuts have the rota's fields
-pub role-rows-are : (s : List ℕ) (d : Division) (masks : List ℕ) → Laid s d masks → (r : ℕ) (pairs work : List ℕ) (k : Count)
-    → RoleDerived s r (d .«era_count» * d .«cell_count») pairs work k
-    → (base : ℕ) → roleRows base (d .eras) (d .«era_count») (d .cells) (d .«cell_count») work ≡ rowsAt (rotaOf s) r base
-unfolding roleRows fields
-role-rows-are s d masks l r pairs work k q base =
-    ap₂ (λ (x y : List ℕ). rowsMarked base (fieldsOf (gaps x) (gaps y)) (take (d .«era_count» * d .«cell_count») work)) (l .divided .era-cuts .are) (l .divided .cell-cuts .are)
-    ∙ q .rows-are base
-
--- cells fit two bytes
-pub cells-fit : {l a : List ℕ} {n top : ℕ} → top ≤ 65535 → Cuts l a n top → Cuts (take (n + 1) a) a n 65535
-cells-fit h w = record { are = refl; long = w .long; rise = w .rise; most = λ k l. omega (arith, w .most k l) }
+-- cuts with another bound
+pub cuts-to : {l a : List ℕ} {n top : ℕ} (top′ : ℕ) → top ≤ top′ → Cuts l a n top → Cuts (take (n + 1) a) a n top′
+cuts-to top′ h w = record { are = refl; long = w .long; rise = w .rise; most = λ k l. omega (arith, w .most k l) }
 
 two-runs : (l : List ℕ) (a p b q : ℕ) (e e′ r r′ : List ℕ) → b ≡ a + length e → q ≡ p + length r → b + length e′ ≤ p
     → sets (sets (sets (sets l a e) p r) b e′) q r′ ≡ sets (sets l a (e ++ e′)) p (r ++ r′)
@@ -52,20 +39,20 @@ pub record Filling (s : List ℕ) (first end total : ℕ) (out₀ out : List ℕ
   pub long : length out ≡ length out₀
   pub few : d ≤ 33345 * r
   pub entries-left : d + length (entriesFrom (rotaOf s) (end - r) r) ≡ total
-  pub rows-left : p + 16 * length (rowsFrom (rotaOf s) (end - r) r d) ≡ 16 + 17 * total + 16 * length (rewriteRoles (rotaOf s) first end .rows)
+  pub rows-left : p + 16 * length (joinedFrom (rotaOf s) (end - r) r d) ≡ 16 + 17 * total + 16 * length (rewriteRoles (rotaOf s) first end .rows)
   pub past : 16 + 17 * total ≤ p
   pub bytes :
-      sets (sets out (16 + 17 * d) (joined entryBytes (entriesFrom (rotaOf s) (end - r) r))) p (joined rowBytes (rowsFrom (rotaOf s) (end - r) r d))
+      sets (sets out (16 + 17 * d) (joined entryBytes (entriesFrom (rotaOf s) (end - r) r))) p (joined rowBytes (joinedFrom (rotaOf s) (end - r) r d))
       ≡ sets (sets out₀ 16 (joined entryBytes (rewriteRoles (rotaOf s) first end .entries))) (16 + 17 * total) (joined rowBytes (rewriteRoles (rotaOf s) first end .rows))
 
 module _ (s : List ℕ) (first end total : ℕ) where
   pub filling-start : (out : List ℕ) → first ≤ end → end ≤ 32 → total ≡ length (rewriteRoles (rotaOf s) first end .entries)
       → Filling s first end total out out 0 (16 + 17 * total) first
   unfolding rewriteRoles
-  filling-start out h m e =
+  filling-start out h k e =
       record {
         within = h;
-        few-roles = m;
+        few-roles = k;
         long = refl;
         few = omega arith;
         entries-left = omega arith;
@@ -75,38 +62,38 @@ module _ (s : List ℕ) (first end total : ℕ) where
       }
 
   module _ (out₀ out : List ℕ) (d p r : ℕ) (w : Filling s first end total out₀ out d p r) where
-    module _ (n : ℕ) (pairs work : List ℕ) (k : Count) (h : r < end) (few : n ≤ 33345) (q : RoleDerived s r n pairs work k) where
-      entries-long : length (entriesFrom (rotaOf s) (end - r) r) ≡ k .entries + length (entriesFrom (rotaOf s) (end - (r + 1)) (r + 1))
+    module _ (n : ℕ) (pairs marks : List ℕ) (m : ℕ) (h : r < end) (few : n ≤ 33345) (q : RoleDerived s r n pairs marks m) where
+      entries-long : length (entriesFrom (rotaOf s) (end - r) r) ≡ m + length (entriesFrom (rotaOf s) (end - (r + 1)) (r + 1))
       entries-long =
           ap length (entries-next (rotaOf s) (end) r h) ∙ length-append (entriesAt (rotaOf s) r) (entriesFrom (rotaOf s) (end - (r + 1)) (r + 1))
           ∙ ap (λ (x : ℕ). x + length (entriesFrom (rotaOf s) (end - (r + 1)) (r + 1))) (sym (q .entry-count))
 
-      rows-long : length (rowsFrom (rotaOf s) (end - r) r d) ≡ length (rowsAt (rotaOf s) r d) + length (rowsFrom (rotaOf s) (end - (r + 1)) (r + 1) (d + k .entries))
+      rows-long : length (joinedFrom (rotaOf s) (end - r) r d) ≡ length (joinedAt (rotaOf s) r d) + length (joinedFrom (rotaOf s) (end - (r + 1)) (r + 1) (d + m))
       rows-long =
           ap length (rows-next (rotaOf s) (end) r d h)
-          ∙ length-append (rowsAt (rotaOf s) r d) (rowsFrom (rotaOf s) (end - (r + 1)) (r + 1) (d + length (entriesAt (rotaOf s) r)))
-          ∙ ap (λ (y : ℕ). length (rowsAt (rotaOf s) r d) + length (rowsFrom (rotaOf s) (end - (r + 1)) (r + 1) (d + y))) (sym (q .entry-count))
+          ∙ length-append (joinedAt (rotaOf s) r d) (joinedFrom (rotaOf s) (end - (r + 1)) (r + 1) (d + length (entriesAt (rotaOf s) r)))
+          ∙ ap (λ (y : ℕ). length (joinedAt (rotaOf s) r d) + length (joinedFrom (rotaOf s) (end - (r + 1)) (r + 1) (d + y))) (sym (q .entry-count))
 
       -- there is room for this role's entries and rows
-      pub entries-room : 16 + 17 * total ≤ length out₀ → 16 + 17 * d + 17 * k .entries ≤ length out
+      pub entries-room : 16 + 17 * total ≤ length out₀ → 16 + 17 * d + 17 * m ≤ length out
       entries-room l = omega (arith, w .entries-left, entries-long, w .long)
 
-      pub rows-room : 16 + 17 * total + 16 * length (rewriteRoles (rotaOf s) first end .rows) ≤ length out₀ → p + 16 * length (rowsAt (rotaOf s) r d) ≤ length out
+      pub rows-room : 16 + 17 * total + 16 * length (rewriteRoles (rotaOf s) first end .rows) ≤ length out₀ → p + 16 * length (joinedAt (rotaOf s) r d) ≤ length out
       rows-room l = omega (arith, w .rows-left, rows-long, w .long)
 
-      pub filling-turn : (out₁ out₂ : List ℕ) (p′ : ℕ) (rows : List Row) → rows ≡ rowsAt (rotaOf s) r d
-          → out₁ ≡ sets out (16 + 17 * d) (joined entryBytes (entriesTo r (k .entries) pairs))
+      pub filling-turn : (out₁ out₂ : List ℕ) (p′ : ℕ) (rows : List Row) → rows ≡ joinedAt (rotaOf s) r d
+          → out₁ ≡ sets out (16 + 17 * d) (joined entryBytes (entriesTo r (m) pairs))
           → out₂ ≡ sets out₁ p (joined rowBytes rows) → p′ ≡ p + 16 * length rows
-          → Filling s first end total out₀ out₂ (d + k .entries) p′ (r + 1)
+          → Filling s first end total out₀ out₂ (d + m) p′ (r + 1)
       filling-turn out₁ out₂ p′ rows er e₁ e₂ ep =
           let e = joined entryBytes (entriesAt (rotaOf s) r) in
           let e′ = joined entryBytes (entriesFrom (rotaOf s) (end - (r + 1)) (r + 1)) in
-          let f = joined rowBytes (rowsAt (rotaOf s) r d) in
-          let f′ = joined rowBytes (rowsFrom (rotaOf s) (end - (r + 1)) (r + 1) (d + k .entries)) in
-          let le : length e ≡ 17 * k .entries = joined-length entryBytes 17 entry-long (entriesAt (rotaOf s) r) ∙ ap (λ (x : ℕ). 17 * x) (sym (q .entry-count)) in
+          let f = joined rowBytes (joinedAt (rotaOf s) r d) in
+          let f′ = joined rowBytes (joinedFrom (rotaOf s) (end - (r + 1)) (r + 1) (d + m)) in
+          let le : length e ≡ 17 * m = joined-length entryBytes 17 entry-long (entriesAt (rotaOf s) r) ∙ ap (λ (x : ℕ). 17 * x) (sym (q .entry-count)) in
           let le′ : length e′ ≡ 17 * length (entriesFrom (rotaOf s) (end - (r + 1)) (r + 1)) = joined-length entryBytes 17 entry-long _ in
-          let lf : length f ≡ 16 * length (rowsAt (rotaOf s) r d) = joined-length rowBytes 16 row-long (rowsAt (rotaOf s) r d) in
-          let lp : p′ ≡ p + 16 * length (rowsAt (rotaOf s) r d) = ep ∙ ap (λ (x : List Row). p + 16 * length x) er in
+          let lf : length f ≡ 16 * length (joinedAt (rotaOf s) r d) = joined-length rowBytes 16 row-long (joinedAt (rotaOf s) r d) in
+          let lp : p′ ≡ p + 16 * length (joinedAt (rotaOf s) r d) = ep ∙ ap (λ (x : List Row). p + 16 * length x) er in
           let so : out₂ ≡ sets (sets out (16 + 17 * d) e) p f
           = e₂ ∙ ap₂ (λ (x : List ℕ) (y : List Row). sets x p (joined rowBytes y)) (e₁ ∙ ap (λ (x : List Entry). sets out (16 + 17 * d) (joined entryBytes x)) (q .entries-are)) er in
           record {
@@ -118,14 +105,14 @@ module _ (s : List ℕ) (first end total : ℕ) where
             rows-left = omega (arith, w .rows-left, rows-long);
             past = omega (arith, w .past);
             bytes =
-                ap (λ (x : List ℕ). sets (sets x (16 + 17 * (d + k .entries)) e′) p′ f′) so
-                ∙ two-runs out (16 + 17 * d) p (16 + 17 * (d + k .entries)) p′ e e′ f f′ (omega arith) (omega arith) (omega (arith, w .entries-left, entries-long, w .past))
+                ap (λ (x : List ℕ). sets (sets x (16 + 17 * (d + m)) e′) p′ f′) so
+                ∙ two-runs out (16 + 17 * d) p (16 + 17 * (d + m)) p′ e e′ f f′ (omega arith) (omega arith) (omega (arith, w .entries-left, entries-long, w .past))
                 ∙ ap₂ (λ (x y : List ℕ). sets (sets out (16 + 17 * d) x) p y)
                 (sym (ap (joined entryBytes) (entries-next (rotaOf s) (end) r h)
                 ∙ joined-append entryBytes (entriesAt (rotaOf s) r) (entriesFrom (rotaOf s) (end - (r + 1)) (r + 1))))
                 (sym (ap (joined rowBytes) (rows-next (rotaOf s) (end) r d h)
-                ∙ joined-append rowBytes (rowsAt (rotaOf s) r d) (rowsFrom (rotaOf s) (end - (r + 1)) (r + 1) (d + length (entriesAt (rotaOf s) r)))
-                ∙ ap (λ (y : ℕ). f ++ joined rowBytes (rowsFrom (rotaOf s) (end - (r + 1)) (r + 1) (d + y))) (sym (q .entry-count))))
+                ∙ joined-append rowBytes (joinedAt (rotaOf s) r d) (joinedFrom (rotaOf s) (end - (r + 1)) (r + 1) (d + length (entriesAt (rotaOf s) r)))
+                ∙ ap (λ (y : ℕ). f ++ joined rowBytes (joinedFrom (rotaOf s) (end - (r + 1)) (r + 1) (d + y))) (sym (q .entry-count))))
                 ∙ w .bytes;
           }
 

@@ -6,11 +6,10 @@ ghost use Rattle.rota.specs.Inside.{Located};
 ghost use Rattle.rota.specs.RotaBytes.{rolesOf, rotaOf};
 ghost use Rattle.derivation.specs.Rewriting.{rewriteOutcome, areaAfter};
 ghost use Rattle.derivation.specs.Roles.{rewriteRoles};
-ghost use Rattle.grid.specs.Grid.{Divided};
+ghost use Rattle.grid.specs.Grid.{Parted};
 ghost use Rattle.area.specs.Parts.{placedOutcome, placedArea};
 ghost use Rattle.area.specs.Answers.{writtenGiven};
 use area::Rewritten;
-use grid::Division;
 use rota::Layout;
 use rota::LayoutAnswer;
 
@@ -21,25 +20,40 @@ fn rewrite_small(
     first: u8,
     end: u8,
     out: &mut [u8],
-    division: Division,
+    eras: &[u32],
+    ne: usize,
+    cells: &[u32],
+    nc: usize,
 ) -> Rewritten
-    requires { ⌜ Located (now s) l × (first ≤ end) × (end ≤ rolesOf (now s)) × Divided (now s) division × (division .«era_count» * division .«cell_count» ≤ 256) ⌝ }
+    requires { ⌜ Located (now s) l × (first ≤ end) × (end ≤ rolesOf (now s)) × Parted (now s) (now eras) ne (now cells) nc × (ne * nc ≤ 128) × (nc ≤ 128) ⌝ }
     ensures { λ r. ⌜ (writtenGiven r ≡ placedOutcome (rewriteRoles (rotaOf (now (s .entry))) first end) (length (now (out .entry))))
         × (now (out .exit) ≡ placedArea (rewriteRoles (rotaOf (now (s .entry))) first end) (now (out .entry))) ⌝ }
 {
-    let mut masks = [0u64; 256];
-    let mut pairs = [0u64; 512];
-    let mut work = [0u16; 1280];
+    let mut held = [0u64; 128];
+    let mut row = [0u64; 128];
+    let mut kinds = [0u16; 128];
+    let mut masks = [0u32; 128];
+    let mut pairs = [0u64; 256];
+    let mut marks = [0u16; 129];
+    let mut links = [0u16; 384];
     area::rewrite_with(
         s,
         l,
         first,
         end,
         out,
-        division,
+        eras,
+        ne,
+        cells,
+        nc,
+        &mut held,
+        &mut row,
+        &mut kinds,
         &mut masks,
         &mut pairs,
-        &mut work,
+        &mut marks,
+        &mut links,
+        128,
     )
 }
 
@@ -49,25 +63,40 @@ fn rewrite_middle(
     first: u8,
     end: u8,
     out: &mut [u8],
-    division: Division,
+    eras: &[u32],
+    ne: usize,
+    cells: &[u32],
+    nc: usize,
 ) -> Rewritten
-    requires { ⌜ Located (now s) l × (first ≤ end) × (end ≤ rolesOf (now s)) × Divided (now s) division × (division .«era_count» * division .«cell_count» ≤ 4096) ⌝ }
+    requires { ⌜ Located (now s) l × (first ≤ end) × (end ≤ rolesOf (now s)) × Parted (now s) (now eras) ne (now cells) nc × (ne * nc ≤ 4096) ⌝ }
     ensures { λ r. ⌜ (writtenGiven r ≡ placedOutcome (rewriteRoles (rotaOf (now (s .entry))) first end) (length (now (out .entry))))
         × (now (out .exit) ≡ placedArea (rewriteRoles (rotaOf (now (s .entry))) first end) (now (out .entry))) ⌝ }
 {
-    let mut masks = [0u64; 4096];
+    let mut held = [0u64; 513];
+    let mut row = [0u64; 513];
+    let mut kinds = [0u16; 4096];
+    let mut masks = [0u32; 4096];
     let mut pairs = [0u64; 8192];
-    let mut work = [0u16; 12800];
+    let mut marks = [0u16; 4097];
+    let mut links = [0u16; 12288];
     area::rewrite_with(
         s,
         l,
         first,
         end,
         out,
-        division,
+        eras,
+        ne,
+        cells,
+        nc,
+        &mut held,
+        &mut row,
+        &mut kinds,
         &mut masks,
         &mut pairs,
-        &mut work,
+        &mut marks,
+        &mut links,
+        4096,
     )
 }
 
@@ -78,25 +107,40 @@ fn rewrite_large(
     first: u8,
     end: u8,
     out: &mut [u8],
-    division: Division,
+    eras: &[u32],
+    ne: usize,
+    cells: &[u32],
+    nc: usize,
 ) -> Rewritten
-    requires { ⌜ Located (now s) l × (first ≤ end) × (end ≤ rolesOf (now s)) × Divided (now s) division ⌝ }
+    requires { ⌜ Located (now s) l × (first ≤ end) × (end ≤ rolesOf (now s)) × Parted (now s) (now eras) ne (now cells) nc ⌝ }
     ensures { λ r. ⌜ (writtenGiven r ≡ placedOutcome (rewriteRoles (rotaOf (now (s .entry))) first end) (length (now (out .entry))))
         × (now (out .exit) ≡ placedArea (rewriteRoles (rotaOf (now (s .entry))) first end) (now (out .entry))) ⌝ }
 {
-    let mut masks = [0u64; 33345];
+    let mut held = [0u64; 513];
+    let mut row = [0u64; 513];
+    let mut kinds = [0u16; 33345];
+    let mut masks = [0u32; 33345];
     let mut pairs = [0u64; 66690];
-    let mut work = [0u16; 100547];
+    let mut marks = [0u16; 33346];
+    let mut links = [0u16; 83074];
     area::rewrite_with(
         s,
         l,
         first,
         end,
         out,
-        division,
+        eras,
+        ne,
+        cells,
+        nc,
+        &mut held,
+        &mut row,
+        &mut kinds,
         &mut masks,
         &mut pairs,
-        &mut work,
+        &mut marks,
+        &mut links,
+        16384,
     )
 }
 
@@ -107,14 +151,19 @@ fn rewrite_located(s: &[u8], l: Layout, first: u8, end: u8, out: &mut [u8]) -> R
         × (now (out .exit) ≡ placedArea (rewriteRoles (rotaOf (now (s .entry))) first end) (now (out .entry))) ⌝ }
 {
     let division = grid::divide(s, l);
-    let fields = division.era_count * division.cell_count;
-    if fields <= 256 {
-        return rewrite_small(s, l, first, end, out, division);
+    let eras = division.eras;
+    let cells = division.cells;
+    let ne = division.era_count;
+    let nc = division.cell_count;
+    if nc <= 128 {
+        if ne * nc <= 128 {
+            return rewrite_small(s, l, first, end, out, &eras, ne, &cells, nc);
+        }
     }
-    if fields <= 4096 {
-        return rewrite_middle(s, l, first, end, out, division);
+    if ne * nc <= 4096 {
+        return rewrite_middle(s, l, first, end, out, &eras, ne, &cells, nc);
     }
-    rewrite_large(s, l, first, end, out, division)
+    rewrite_large(s, l, first, end, out, &eras, ne, &cells, nc)
 }
 
 // Rewrites a rota into an area: 1 to 12 as it is read, then 20 exactly where the table is longer than the area, which then stays as it came; else

@@ -1,8 +1,8 @@
--- The size is that of the counts, which are the table's or already too many: so 20 is given exactly where the table does not fit, and else the header
--- and all parts are written.
 use native.Mathlib.Omega.{arith}
 use mathlib.Core.Path.{_∙_}
 use Rattle.area.proofs.TableLaws.{header-fits, can-write, has-written, has-not}
+-- The size is that of the counts, which are the table's or already too many: so 20 is given exactly where the table does not fit, and else the header
+-- and all parts are written.
 use borrow.Author.Needs.{needs}
 use Rattle.area.proofs.write_table.Statement.{statement}
 use Rattle.area.proofs.write_table.Tie as tie
@@ -19,44 +19,47 @@ mul-size-2 c = search needs
 add-size-2 : tie.Need-add-size-2
 add-size-2 c = search needs
 
-cast-t19 : tie.Need-cast-t19
-cast-t19 c = search needs
+cast-t26 : tie.Need-cast-t26
+cast-t26 c = search needs
 
-cast-t20 : tie.Need-cast-t20
-cast-t20 c = search needs
+cast-t27 : tie.Need-cast-t27
+cast-t27 c = search needs
 
 start-table-requires : tie.Need-start-table-requires
-start-table-requires c κs = let a = c .before .before .before .before .before .before .before .args in (header-fits (a .s .now) (a .l) (c .before .before .before .before .before .before .before .pre .0 .0) (a .k .entries) (a .k .rows), omega arith)
+start-table-requires c κs = let a = c .before .before .before .before .before .before .before .before .before .before .before .args in (header-fits (a .s .now) (a .l) (c .before .before .before .before .before .before .before .before .before .before .before .pre .0 .0) (a .k .entries) (a .k .rows), omega arith)
 
 write-all-requires : tie.Need-write-all-requires
-write-all-requires c κs = let a = c .before .before .before .before .before .before .before .before .before .before .before .before .before .before .args in let p = c .before .before .before .before .before .before .before .before .before .before .before .before .before .before .pre in let t = c .before .before .before .before .before .before .start-table in
-    let g = can-write (a .s .now) (a .l) (p .0 .0) (a .first) (a .end) (a .out .now) (a .k) (p .0 .3) (t .result) _ (t .ensures .0) (t .ensures .1) (c .before .before .before .if1 .taken) in
-    ((p .0 .0, p .0 .1, p .0 .2), ((p .1 .0, p .1 .1), g))
+write-all-requires c κs = let a = c .before .before .before .before .before .before .before .before .before .before .before .before .before .before .before .before .before .before .before .args in let p = c .before .before .before .before .before .before .before .before .before .before .before .before .before .before .before .before .before .before .before .pre in let t = c .before .before .before .before .before .before .before .start-table in
+    let g = can-write (a .s .now) (a .l) (p .0 .0) (a .first) (a .end) (a .out .now) (a .k) (p .0 .3) (t .result) _ (t .ensures .0) (t .ensures .1) (c .before .before .before .before .if1 .taken) in
+    ((p .0 .0, p .0 .1, p .0 .2), (p .1, g))
 
-cast-t31 : tie.Need-cast-t31
-cast-t31 c = search needs
+cast-t40 : tie.Need-cast-t40
+cast-t40 c = omega (arith, c .before .before .before .before .before .before .before .before .before .before .before .before .before .before .before .before .before .before .before .before .before .before .before .before .before .before .before .before .pre .0 .3 .few)
 
-cast-t32 : tie.Need-cast-t32
-cast-t32 c = search needs
+cast-t41 : tie.Need-cast-t41
+cast-t41 c = omega (arith, c .before .before .before .before .before .before .before .before .before .before .before .before .before .before .before .before .before .before .before .before .before .before .before .before .before .before .before .before .pre .0 .3 .few-rows)
 
 same-length : tie.Need-same-length
-same-length c = c .before .before .before .before .before .before .write-all .kept .1 .1 .1 .1 .0 ∙ c .before .before .before .before .before .before .before .before .before .before .before .before .before .start-table .kept .0
+same-length c = search needs
 
 same-length-2 : tie.Need-same-length-2
-same-length-2 c = c .before .before .before .before .before .before .write-all .kept .1 .1 .1 .1 .1 .1 .1 .1 .0
+same-length-2 c = search needs
 
 same-length-3 : tie.Need-same-length-3
-same-length-3 c = c .before .before .before .before .before .before .write-all .kept .1 .1 .1 .1 .1 .1 .1 .1 .1 .0
-
-returns : tie.Need-returns
-returns c = let a = c .before .before .before .before .before .before .before .before .before .before .before .before .before .before .before .before .before .before .before .before .before .args in let p = c .before .before .before .before .before .before .before .before .before .before .before .before .before .before .before .before .before .before .before .before .before .pre in let t = c .before .before .before .before .before .before .before .before .before .before .before .before .before .start-table in
-    has-written (a .s .now) (a .l) (p .0 .0) (a .first) (a .end) (a .out .now) (a .k) (p .0 .3) (t .result) _ (t .ensures .0) (t .ensures .1) (c .before .before .before .before .before .before .before .before .before .before .if1 .taken) _ (c .before .before .before .before .before .before .write-all .ensures)
+same-length-3 c = search needs
 
 same-length-4 : tie.Need-same-length-4
-same-length-4 c = c .before .before .before .start-table .kept .0
+same-length-4 c = search needs
+
+returns : tie.Need-returns
+returns c = let a = c .before .before .before .before .before .before .before .before .before .before .before .before .before .before .before .before .before .before .before .before .before .before .before .before .before .before .before .before .args in let p = c .before .before .before .before .before .before .before .before .before .before .before .before .before .before .before .before .before .before .before .before .before .before .before .before .before .before .before .before .pre in let t = c .before .before .before .before .before .before .before .before .before .before .before .before .before .before .before .before .start-table in
+    has-written (a .s .now) (a .l) (p .0 .0) (a .first) (a .end) (a .out .now) (a .k) (p .0 .3) (t .result) _ (t .ensures .0) (t .ensures .1) (c .before .before .before .before .before .before .before .before .before .before .before .before .before .if1 .taken) _ (c .before .before .before .before .before .before .before .before .write-all .ensures)
+
+same-length-5 : tie.Need-same-length-5
+same-length-5 c = search needs
 
 returns-2 : tie.Need-returns-2
-returns-2 c = let a = c .before .before .before .before .before .before .before .before .before .before .before .args in let p = c .before .before .before .before .before .before .before .before .before .before .before .pre in let t = c .before .before .before .start-table in
+returns-2 c = let a = c .before .before .before .before .before .before .before .before .before .before .before .before .before .before .before .args in let p = c .before .before .before .before .before .before .before .before .before .before .before .before .before .before .before .pre in let t = c .before .before .before .start-table in
     has-not (a .s .now) (a .l) (p .0 .0) (a .first) (a .end) (a .out .now) (a .k) (p .0 .3) (t .result) _ (t .ensures .0) (t .ensures .1) (c .if1 .left)
 
 pub write-table-spec : {M : Type 1} → statement M
@@ -67,15 +70,16 @@ write-table-spec =
     add-size
     mul-size-2
     add-size-2
-    cast-t19
-    cast-t20
+    cast-t26
+    cast-t27
     start-table-requires
     write-all-requires
-    cast-t31
-    cast-t32
+    cast-t40
+    cast-t41
     same-length
     same-length-2
     same-length-3
-    returns
     same-length-4
+    returns
+    same-length-5
     returns-2)

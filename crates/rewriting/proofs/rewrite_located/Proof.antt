@@ -1,53 +1,82 @@
 use native.Mathlib.Omega.{arith}
 use Rattle.grid.proofs.LaidLaws.{fields-few}
+use borrow.Author.Needs.{needs}
 use Rattle.rewriting.proofs.rewrite_located.Statement.{statement}
 use Rattle.rewriting.proofs.rewrite_located.Tie as tie
 
 divide-requires : tie.Need-divide-requires
-divide-requires c κs = c .before .before .pre .0
+divide-requires c κs = search needs
 
-mul-fields : tie.Need-mul-fields
-mul-fields c = omega (arith, fields-few (c .before .divide .ensures))
+mul-if2 : tie.Need-mul-if2
+mul-if2 c = omega (arith, fields-few (c .before .before .before .divide .ensures))
+
+slice-aggregate-rewrite-small : tie.Need-slice-aggregate-rewrite-small
+slice-aggregate-rewrite-small c = search needs
+
+slice-aggregate-rewrite-small-2 : tie.Need-slice-aggregate-rewrite-small-2
+slice-aggregate-rewrite-small-2 c = search needs
 
 rewrite-small-requires : tie.Need-rewrite-small-requires
-rewrite-small-requires c κs = let p = c .before .before .before .before .before .before .pre in (p .0, p .1, p .2, c .before .before .before .divide .ensures, c .before .if1 .taken)
+rewrite-small-requires c κs = search needs
 
 same-length : tie.Need-same-length
-same-length c = c .before .before .rewrite-small .kept .1 .1 .1 .1 .0
+same-length c = search needs
 
 returns : tie.Need-returns
-returns c = c .before .before .rewrite-small .ensures
+returns c = search needs
+
+mul-if3 : tie.Need-mul-if3
+mul-if3 c = omega (arith, fields-few (c .before .before .before .divide .ensures))
+
+slice-aggregate-rewrite-middle : tie.Need-slice-aggregate-rewrite-middle
+slice-aggregate-rewrite-middle c = search needs
+
+slice-aggregate-rewrite-middle-2 : tie.Need-slice-aggregate-rewrite-middle-2
+slice-aggregate-rewrite-middle-2 c = search needs
 
 rewrite-middle-requires : tie.Need-rewrite-middle-requires
-rewrite-middle-requires c κs = let p = c .before .before .before .before .before .before .before .pre in (p .0, p .1, p .2, c .before .before .before .before .divide .ensures, c .before .if2 .taken)
+rewrite-middle-requires c κs = search needs
 
 same-length-2 : tie.Need-same-length-2
-same-length-2 c = c .before .before .rewrite-middle .kept .1 .1 .1 .1 .0
+same-length-2 c = search needs
 
 returns-2 : tie.Need-returns-2
-returns-2 c = c .before .before .rewrite-middle .ensures
+returns-2 c = search needs
+
+slice-aggregate-rewrite-large : tie.Need-slice-aggregate-rewrite-large
+slice-aggregate-rewrite-large c = search needs
+
+slice-aggregate-rewrite-large-2 : tie.Need-slice-aggregate-rewrite-large-2
+slice-aggregate-rewrite-large-2 c = search needs
 
 rewrite-large-requires : tie.Need-rewrite-large-requires
-rewrite-large-requires c κs = let p = c .before .before .before .before .before .before .before .pre in (p .0, p .1, p .2, c .before .before .before .before .divide .ensures)
+rewrite-large-requires c κs = search needs
 
 same-length-3 : tie.Need-same-length-3
-same-length-3 c = c .before .before .rewrite-large .kept .1 .1 .1 .1 .0
+same-length-3 c = search needs
 
 returns-3 : tie.Need-returns-3
-returns-3 c = c .before .before .rewrite-large .ensures
+returns-3 c = search needs
 
 pub rewrite-located-spec : {M : Type 1} → statement M
 rewrite-located-spec =
     tie.close
     (tie.spec
     divide-requires
-    mul-fields
+    mul-if2
+    slice-aggregate-rewrite-small
+    slice-aggregate-rewrite-small-2
     rewrite-small-requires
     same-length
     returns
+    mul-if3
+    slice-aggregate-rewrite-middle
+    slice-aggregate-rewrite-middle-2
     rewrite-middle-requires
     same-length-2
     returns-2
+    slice-aggregate-rewrite-large
+    slice-aggregate-rewrite-large-2
     rewrite-large-requires
     same-length-3
     returns-3)
