@@ -20,7 +20,7 @@ use Rattle.rota.proofs.RotaTheorems.{accepted-well}
 use Rattle.table.specs.Table as table
 use Rattle.table.specs.TableBytes.{tableBytes, tableOf}
 use Rattle.table.specs.TableRefusals.{tableJudged}
-use Rattle.derivation.specs.Rewriting.{rewrite, sizeOf, rewriteJudged, Written, writtenOf, rewriteOutcome, areaAfter}
+use Rattle.derivation.specs.Rewriting.{unjoined, rewrite, sizeOf, rewriteJudged, Written, writtenOf, rewriteOutcome, areaAfter}
 use Rattle.derivation.specs.Meaning.{MeansAt}
 use Rattle.derivation.specs.Untimed.{Untimed, countOf, Rival}
 use Rattle.derivation.proofs.RewritingTheorems.{means, same-answer, fewest}
@@ -34,7 +34,7 @@ use Rattle.agreement.proofs.MachineLaws.{run-same, service-is, same-ste
 
 -- the machine on the rewritten table is the machine on the rota
 table-step : (ρ : Rota) → RotaWell ρ → (σ : Service) (c : Call) → machineStep (table.policyOf (rewrite ρ)) σ c ≡ machineStep (rota.policyOf ρ) σ c
-unfolding rewrite
+unfolding rewrite unjoined
 table-step ρ w σ c =
     same-step (ρ .users) (ρ .permissions) (table.answer (rewrite ρ)) (answer ρ) (λ u p t hu hp ht. same-answer w u p t hu hp ht) σ c
 

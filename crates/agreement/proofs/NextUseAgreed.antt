@@ -13,12 +13,12 @@ use Rattle.rota.proofs.RotaTheorems.{accepted-well}
 use Rattle.table.specs.Table as table
 use Rattle.table.specs.TableBytes.{tableOf}
 use Rattle.table.specs.TableRefusals.{tableJudged}
-use Rattle.derivation.specs.Rewriting.{rewrite}
+use Rattle.derivation.specs.Rewriting.{unjoined, rewrite}
 use Rattle.derivation.proofs.RewritingTheorems.{same-answer}
 use Rattle.agreement.specs.Demand3.{Demand3}
 
 by-rota : (ρ : Rota) → RotaWell ρ → (u p m : ℕ) → nextUseQuestion 0 (table.policyOf (rewrite ρ)) u p m ≡ nextUseQuestion 0 (rota.policyOf ρ) u p m
-unfolding rewrite
+unfolding rewrite unjoined
 by-rota ρ w u p m =
     same-next (ρ .users) (ρ .permissions) (table.answer (rewrite ρ)) (answer ρ) (λ v q t hu hp ht. same-answer w v q t hu hp ht) u p m
 

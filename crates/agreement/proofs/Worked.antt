@@ -29,9 +29,11 @@ use Rattle.rota.proofs.Worked.{small-accepted, worked-minutes}
 use Rattle.table.specs.Table.{Entry, Row}
 use Rattle.derivation.specs.Cuts.{insertCut, sortInto, gapsFrom, gaps}
 use Rattle.derivation.specs.Distinct.{addNew, addAll, placeOf}
-use Rattle.derivation.specs.Rewriting.{hoursCuts, pairCuts, pairsCuts, eraCuts, cellCuts, fieldsOf, fields, keptAs, rewrite, sizeOf, rewriteJudged}
+use Rattle.derivation.specs.Joined.{attach, joinRows}
+use Rattle.derivation.specs.Rewriting.{hoursCuts, pairCuts, pairsCuts, eraCuts, cellCuts, fieldsOf, fields, keptAs, unjoined, rewrite, sizeOf, rewriteJudged}
 use Rattle.minutes.specs.First.{firstIn}
 use Rattle.derivation.specs.Masks.{maskOf, slotOf, assignedIn, usersIn, permissionsIn, keptIn}
+use Rattle.derivation.proofs.Joining.{joined-entries}
 use Rattle.derivation.proofs.RewritingTheorems.{kept-mask, worked-field}
 use Rattle.derivation.specs.Roles.{entriesFrom, rowsFrom, nextEntries, markOf, derivedFrom, marksFrom, rowsMarked}
 use Rattle.derivation.proofs.RoleByRole.{entries-by-role, rows-by-role}
@@ -71,20 +73,27 @@ row d b e o l = record { derived = d; window = record { begin = b; end = e; offs
 
 pub small-entries : rewrite ρ .entries ≡ entry 0 1 1 ∷ entry 0 3 1 ∷ entry 0 2 1 ∷ []
 unfolding opened entriesFrom
-small-entries = entries-by-role ρ ∙ ap (λ (l : List Entry). l ++ []) (role-entries ρ 0 (keptIn ρ 0) (map (maskOf ρ) (fields ρ)) agree)
+small-entries = joined-entries ρ ∙ entries-by-role ρ ∙ ap (λ (l : List Entry). l ++ []) (role-entries ρ 0 (keptIn ρ 0) (map (maskOf ρ) (fields ρ)) agree)
 
-pub small-rows : rewrite ρ .rows
+-- one row for each kept field
+small-unjoined : unjoined ρ .rows
     ≡ row 0 0 10 0 2 ∷ row 0 0 10 2 2 ∷ row 0 0 10 6 1 ∷ row 0 0 10 7 1 ∷ row 0 10 20 0 2 ∷ row 1 10 20 2 2 ∷ row 2 10 20 4 2 ∷ row 1 10 20 6 1 ∷ row 0 10 20 7 1
     ∷ row 2 20 40 2 2 ∷ row 2 20 40 4 2 ∷ row 2 20 40 6 1 ∷ []
 unfolding opened rowsFrom
-small-rows = rows-by-role ρ ∙ ap (λ (l : List Row). l ++ []) (role-rows ρ 0 (keptIn ρ 0) (map (maskOf ρ) (fields ρ)) agree 0)
+small-unjoined = rows-by-role ρ ∙ ap (λ (l : List Row). l ++ []) (role-rows ρ 0 (keptIn ρ 0) (map (maskOf ρ) (fields ρ)) agree 0)
 
-pub small-size : sizeOf (rewrite ρ) ≡ 259
+-- those that touch are one: 0 to 2 and 2 to 4, 6 to 7 and 7 to 8 of the first era, and the three of the last
+pub small-rows : rewrite ρ .rows
+    ≡ row 0 0 10 0 4 ∷ row 0 0 10 6 2 ∷ row 0 10 20 0 2 ∷ row 1 10 20 2 2 ∷ row 2 10 20 4 2 ∷ row 1 10 20 6 1 ∷ row 0 10 20 7 1 ∷ row 2 20 40 2 5 ∷ []
+unfolding rewrite joinRows attach
+small-rows = ap joinRows small-unjoined
+
+pub small-size : sizeOf (rewrite ρ) ≡ 195
 unfolding sizeOf
 small-size = omega (arith, ap length small-entries, ap length small-rows)
 
--- S needs 259 bytes, and 258 give 20
-pub small-needs : (rewriteJudged small 259 ≡ 0) × (rewriteJudged small 258 ≡ 20)
+-- S needs 195 bytes, and 194 give 20
+pub small-needs : (rewriteJudged small 195 ≡ 0) × (rewriteJudged small 194 ≡ 20)
 unfolding rewriteJudged opened
 small-needs = (rw small-size refl, rw small-size refl)
 
