@@ -1,6 +1,7 @@
 -- Rows that keep the reader's rules keep them when those that touch are joined.
 --     join-well     each row in its range
 --     join-order    each row after the one before
+--     in-order      the same of rows of which each follows all before it
 -- Assumes nothing.
 use mathlib.Core.Path.{_≡_, ap, _∙_}
 use mathlib.Core.Logic.{inl, inr}
@@ -38,7 +39,7 @@ module _ (τ : Table) where
       go (inr (inr l)) = inr (inr (source ∙ l .0, omega (arith, t .end, l .1)))
 
   -- rows of which each follows all before it follow one another
-  in-order : (ws : List Row) → Pairwise (Follows τ) ws → InOrder τ ws
+  pub in-order : (ws : List Row) → Pairwise (Follows τ) ws → InOrder τ ws
   in-order [] p = tt
   in-order (v ∷ []) p = tt
   in-order (v ∷ w ∷ ws) p = (p .0 .0, in-order (w ∷ ws) (p .1))

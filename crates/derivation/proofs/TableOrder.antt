@@ -1,4 +1,5 @@
 -- The entries of a rewritten table, and its rows before those that touch are joined: each in its range, in order, and how many there are.
+--     withRows                                     the table, with any rows
 --     entries-well, entries-ascend, entries-few    sources and sets in range, sources ascend, no more entries than rows
 --     rows-well, rows-follow, rows-few             windows and derived roles in range, each row follows those before, at most 1,067,040
 -- Assumes nothing.
@@ -12,10 +13,10 @@ use lib.ListN.{length, length-map}
 use Rattle.ground.specs.Sequence.{All}
 use Rattle.rota.specs.Rota.{Rota}
 use Rattle.rota.specs.RotaWell.{RotaWell}
-use Rattle.table.specs.Table.{Entry, noEntry, entryAt}
+use Rattle.table.specs.Table.{Entry, Row, Table, noEntry, entryAt}
 use Rattle.table.specs.TableWell.{EntryWell, Ascending, RowWell, Follows}
 use Rattle.derivation.specs.Distinct.{placeOf}
-use Rattle.derivation.specs.Rewriting.{fields, Kept, keptOf, kept, same, entriesOf, rowOf, unjoined, rewrite}
+use Rattle.derivation.specs.Rewriting.{fields, Kept, keptOf, kept, same, entriesOf, rowOf, unjoined}
 use Rattle.derivation.proofs.TableDistinct.{there, place-below, place-is}
 use Rattle.derivation.proofs.TableFields.{FieldWell, fields-well}
 use Rattle.derivation.proofs.TableKept.{same-is, entries-there, entries-all, entries-length, keptOf-fields, keptOf-entries, keptFrom-all, After, kept-ordered, kept-few}
@@ -39,21 +40,33 @@ from-ascending ρ (suc n) r =
     (all-with (λ e d. d .source) (entriesAt ρ r) (entriesAt-derived ρ r))
     (ascending-from r (suc r) (entriesFrom ρ n (suc r)) (omega arith) (from-ascending ρ n (suc r)))
 
+-- a rota's derived roles with any rows: with those of `unjoined`, and with those of `rewrite`
+abbrev pub withRows : Rota → List Row → Table
+withRows ρ ws =
+    record {
+      cycle = ρ .cycle;
+      users = ρ .users;
+      permissions = ρ .permissions;
+      roles = length (ρ .roles);
+      entries = entriesOf (kept ρ);
+      rows = ws;
+    }
+
 module _ (ρ : Rota) where
-  pub entries-few : length (rewrite ρ .entries) ≤ length (unjoined ρ .rows)
-  unfolding rewrite unjoined
+  pub entries-few : length (entriesOf (kept ρ)) ≤ length (unjoined ρ .rows)
+  unfolding unjoined
   entries-few = omega (arith, entries-length (kept ρ), length-map (kept ρ) (rowOf (entriesOf (kept ρ))))
 
-  pub entries-ascend : Ascending 0 (rewrite ρ .entries)
-  unfolding rewrite
+  pub entries-ascend : Ascending 0 (entriesOf (kept ρ))
+  unfolding unjoined
   entries-ascend = subst (Ascending 0) (sym (entries-by-role ρ)) (from-ascending ρ (length (ρ .roles)) 0)
 
   -- the sources are roles, the sets are not empty and in range
-  pub entries-well : All (EntryWell (rewrite ρ)) (rewrite ρ .entries)
-  unfolding rewrite unjoined kept
-  entries-well =
-      entries-all (EntryWell (rewrite ρ)) (kept ρ)
-      (keptFrom-all ρ (λ (k : Kept). EntryWell (rewrite ρ) (k .entry)) (length (ρ .roles)) 0
+  pub entries-well : (ws : List Row) → All (EntryWell (withRows ρ ws)) (entriesOf (kept ρ))
+  unfolding kept
+  entries-well ws =
+      entries-all (EntryWell (withRows ρ ws)) (kept ρ)
+      (keptFrom-all ρ (λ (k : Kept). EntryWell (withRows ρ ws) (k .entry)) (length (ρ .roles)) 0
       (λ q a b. all-with
       (λ k d. record {
         source = omega (arith, d .source);
@@ -65,10 +78,9 @@ module _ (ρ : Rota) where
       (keptOf ρ q (fields ρ)) (keptOf-entries ρ q (fields ρ))))
 
   -- the row of what is kept names its derived role
-  row-source : (k : Kept) → there same (k .entry) (entriesOf (kept ρ)) ≡ true
-      → entryAt (rewrite ρ) (placeOf same (k .entry) (entriesOf (kept ρ))) .source ≡ k .entry .source
-  unfolding rewrite unjoined
-  row-source k h = ap (λ (e : Entry). e .source) (place-is same same-is (k .entry) (entriesOf (kept ρ)) noEntry h)
+  row-source : (ws : List Row) (k : Kept) → there same (k .entry) (entriesOf (kept ρ)) ≡ true
+      → entryAt (withRows ρ ws) (placeOf same (k .entry) (entriesOf (kept ρ))) .source ≡ k .entry .source
+  row-source ws k h = ap (λ (e : Entry). e .source) (place-is same same-is (k .entry) (entriesOf (kept ρ)) noEntry h)
 
 module _ (ρ : Rota) (w : RotaWell ρ) where
   pub rows-few : length (unjoined ρ .rows) ≤ 1067040
@@ -81,10 +93,10 @@ module _ (ρ : Rota) (w : RotaWell ρ) where
       keptFrom-all ρ (λ (k : Kept). FieldWell (ρ .cycle) (k .field)) (length (ρ .roles)) 0
       (λ q a b. keptOf-fields ρ (FieldWell (ρ .cycle)) q (fields ρ) (fields-well ρ w))
 
-  pub rows-well : All (RowWell (rewrite ρ)) (unjoined ρ .rows)
-  unfolding rewrite unjoined
-  rows-well =
-      all-map (RowWell (rewrite ρ)) (rowOf (entriesOf (kept ρ))) (kept ρ)
+  pub rows-well : (ws : List Row) → All (RowWell (withRows ρ ws)) (unjoined ρ .rows)
+  unfolding unjoined
+  rows-well ws =
+      all-map (RowWell (withRows ρ ws)) (rowOf (entriesOf (kept ρ))) (kept ρ)
       (all-both
       (λ k h f. record {
         derived = place-below same (k .entry) (entriesOf (kept ρ)) h;
@@ -95,10 +107,10 @@ module _ (ρ : Rota) (w : RotaWell ρ) where
       })
       (kept ρ) (entries-there (kept ρ)) kept-fields)
 
-  pub rows-follow : Pairwise (Follows (rewrite ρ)) (unjoined ρ .rows)
-  unfolding rewrite unjoined
-  rows-follow =
-      pairwise-map (Follows (rewrite ρ)) (rowOf (entriesOf (kept ρ))) (kept ρ)
+  pub rows-follow : (ws : List Row) → Pairwise (Follows (withRows ρ ws)) (unjoined ρ .rows)
+  unfolding unjoined
+  rows-follow ws =
+      pairwise-map (Follows (withRows ρ ws)) (rowOf (entriesOf (kept ρ))) (kept ρ)
       (pairwise-with
-      (λ j k p q h. subst₂ (λ (a b : ℕ). After a b (j .field) (k .field)) (sym (row-source ρ j p)) (sym (row-source ρ k q)) h)
+      (λ j k p q h. subst₂ (λ (a b : ℕ). After a b (j .field) (k .field)) (sym (row-source ρ ws j p)) (sym (row-source ρ ws k q)) h)
       (kept ρ) (entries-there (kept ρ)) (kept-ordered ρ w))
