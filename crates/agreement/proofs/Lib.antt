@@ -4,3 +4,4 @@ pub mod Pinned
 pub mod Worked
 pub mod NextUseAgreed
 pub mod Sleeping
+pub mod Touching

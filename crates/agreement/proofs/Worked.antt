@@ -1,4 +1,4 @@
--- What document 01 marks for proof under "Worked minutes", and document 02 of S in item 3, as one statement; and the table of its small rota S.
+-- What document 01 marks for proof under "Worked minutes", and document 02 of S in items 3 and 4, as one statement; and the table of its small rota S.
 -- Assumes nothing.
 use Prim.Native.Nat.{ℕ, _<_}
 use mathlib.Core.Path.{_≡_, refl, ap, _∙_}
@@ -107,6 +107,9 @@ worked =
       advances-4 = refl;
       opens-0-at-1 = refl;
       advances-11 = refl;
+      lists-8 = ap length small-rows;
+      needs-195 = small-needs .0;
+      refused-194 = small-needs .1;
       era-3-to-5 = (worked-field .1, worked-field .2);
       leap-day-is = leap-day;
       leap-day-sunday = ap (λ (d : Date). d .weekday) leap-day-date;

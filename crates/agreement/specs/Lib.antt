@@ -1,3 +1,4 @@
 pub mod Demand3
 pub mod Worked
 pub mod Sleeping
+pub mod Touching

@@ -1,14 +1,15 @@
--- What document 01 marks for proof under "Worked minutes", and document 02 of S in item 3, as one statement.
+-- What document 01 marks for proof under "Worked minutes", and document 02 of S in items 3 and 4, as one statement.
 use Prim.Native.Nat.{ℕ}
 use mathlib.Core.Path.{_≡_}
 use mathlib.Core.Option.{none}
 use mathlib.Core.List.{List·Memᴰ}
+use lib.ListN.{length}
 use Rattle.ground.specs.Outcome.{refused, given}
 use Rattle.calendar.specs.Calendar.{dateAt, minuteOf}
 use Rattle.rota.specs.Rota.{policyOf}
 use Rattle.rota.specs.RotaBytes.{rotaOf}
 use Rattle.rota.specs.Worked.{small, WorkedMinutes}
-use Rattle.derivation.specs.Rewriting.{keptAs, Kept, kept}
+use Rattle.derivation.specs.Rewriting.{keptAs, Kept, kept, rewrite, rewriteJudged}
 use Rattle.derivation.specs.Worked.{example, field}
 use Rattle.machine.specs.declared.Service.{Service}
 use Rattle.machine.specs.Machine.{Call, advance, «open», closed, done, Step, state, fresh, machineStep}
@@ -26,6 +27,10 @@ pub record Worked : Type 0 where
   -- open 0 at minute 1, then advance 11 gives count 1 (document 02, item 3): at minute 4 volunteer 0 holds no right
   pub opens-0-at-1 : on-small (state 1 0) («open» 0) ≡ record { outcome = given done; after = state 1 1 }
   pub advances-11 : on-small (state 1 1) (advance 11) ≡ record { outcome = given (closed 1); after = state 11 0 }
+  -- S lists 8 rows and needs 195 bytes, and 194 give 20 (document 02, item 4)
+  pub lists-8 : length (rewrite (rotaOf small) .rows) ≡ 8
+  pub needs-195 : rewriteJudged small 195 ≡ 0
+  pub refused-194 : rewriteJudged small 194 ≡ 20
   -- C 10, hours (3, 5, pair (0, 10)) and (0, E, pair (6, 2)): era 3 to 5 keeps no field with cell 6 to 8
   pub era-3-to-5 : (keptAs example 0 field ≡ none) × ((k : Kept) → List·Memᴰ k (kept example) → k .field ≡ field → ⊥)
   -- 29 February 2004, 00:00, is minute 1,661,760, a Sunday; the last minute is a Sunday
