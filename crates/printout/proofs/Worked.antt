@@ -1,4 +1,4 @@
--- The listing of the small rota S is the text that document 01 prints.
+-- The listing of the small rota S: the text that document 01 prints, with the rows that touch joined (document 02, item 4).
 -- Assumes nothing.
 use Prim.Native.Nat.{ℕ}
 use mathlib.Core.Path.{_≡_, refl, ap, ap₂, _∙_}
@@ -13,14 +13,14 @@ use Rattle.rota.specs.RotaBytes.{rotaOf}
 use Rattle.rota.specs.Worked.{small}
 use Rattle.rota.proofs.Worked.{small-accepted}
 use Rattle.table.specs.Table.{Entry, Row}
-use Rattle.derivation.specs.Rewriting.{rewrite, rewriteJudged}
+use Rattle.derivation.specs.Rewriting.{unjoined, rewrite, rewriteJudged}
 use Rattle.agreement.proofs.Worked.{small-entries, small-rows, small-size}
 use Rattle.lines.specs.Lines.{ascii, digit, digits, placesIn, places, decimal, hex16, tableLine, roleLine, rowLine}
 use Rattle.table_text.specs.TableText.{roleText, rowText, rolesText, tableText}
 use Rattle.printout.specs.Listing.{listingJudged, listingOf}
 
 cycle-of-S : rewrite (rotaOf small) .cycle ≡ 10
-unfolding rewrite rotaOf u16At
+unfolding rewrite unjoined rotaOf u16At
 cycle-of-S = refl
 
 judged-S : listingJudged small ≡ 0
@@ -31,22 +31,18 @@ abbrev lines-of : ℕ → List Entry → List Row → List ℕ
 lines-of c es rs = tableLine c (length es) (length rs) ++ rolesText 0 es ++ joined rowText rs
 
 pub listing-of-S : listingOf small
-    ≡ ascii "table 10 3 12\n"
+    ≡ ascii "table 10 3 8\n"
     ++ ascii "role 0 0 0000000000000001 0000000000000001\n"
     ++ ascii "role 1 0 0000000000000003 0000000000000001\n"
     ++ ascii "role 2 0 0000000000000002 0000000000000001\n"
-    ++ ascii "row 0 0 10 0 2\n"
-    ++ ascii "row 0 0 10 2 2\n"
-    ++ ascii "row 0 0 10 6 1\n"
-    ++ ascii "row 0 0 10 7 1\n"
+    ++ ascii "row 0 0 10 0 4\n"
+    ++ ascii "row 0 0 10 6 2\n"
     ++ ascii "row 0 10 20 0 2\n"
     ++ ascii "row 1 10 20 2 2\n"
     ++ ascii "row 2 10 20 4 2\n"
     ++ ascii "row 1 10 20 6 1\n"
     ++ ascii "row 0 10 20 7 1\n"
-    ++ ascii "row 2 20 40 2 2\n"
-    ++ ascii "row 2 20 40 4 2\n"
-    ++ ascii "row 2 20 40 6 1\n"
+    ++ ascii "row 2 20 40 2 5\n"
 unfolding listingOf tableText ascii digit digits placesIn places decimal hex16 tableLine roleLine rowLine roleText rowText rolesText joined
 listing-of-S =
     let τ = rewrite (rotaOf small) in
