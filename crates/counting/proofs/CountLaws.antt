@@ -22,7 +22,7 @@ use Rattle.derive.proofs.DeriveLaws.{masks-length}
 use Rattle.grid.specs.Grid.{Parted}
 use Rattle.grid.proofs.LaidLaws.{fields-few}
 use Rattle.kinds.specs.Kinds.{masksOf, Numbered}
-use Rattle.roles.specs.Parts.{RoleDerived}
+use Rattle.roles.specs.Parts.{RoleDerived, RoleDerivedTo}
 use Rattle.writing.specs.Parts.{fieldMarks, HaveMarks, roleRows, runsOf, CountedRows}
 use Rattle.writing.proofs.FieldLaws.{marks-long}
 use Rattle.writing.proofs.CountLaws.{runs-rows}
@@ -47,6 +47,10 @@ module _ {s : List ℕ} {N n : ℕ} {kinds sets : List ℕ} (q : Numbered s N n 
             let z : getD kinds i 0 ≡ getD (kindsFrom [] (masksOf s)) i 0 = sym (getD-take N kinds i 0 h) ∙ ap (λ (l : List ℕ). getD l i 0) (q .kinds-are) in
             omega (arith, all-in (λ (x : ℕ). x ≤ length (masksFrom [] (masksOf s))) (kindsFrom [] (masksOf s)) (kinds-most [] (masksOf s)) (at-in (kindsFrom [] (masksOf s)) i 0 (omega arith)));
       }
+
+-- a limit that no role passes
+pub whole-role : {s pairs marks : List ℕ} {r n d : ℕ} → n ≤ 33345 → RoleDerivedTo 33345 s r n pairs marks d → RoleDerived s r n pairs marks d
+whole-role few q = q .whole (omega (arith, q .few))
 
 -- the rows that the marks of a role say are the role's
 pub role-rows-are : {s eras cells kinds sets : List ℕ} {ne nc n : ℕ} → Parted s eras ne cells nc → Numbered s (ne * nc) n kinds sets → {r : ℕ} {pairs marks : List ℕ} {d : ℕ}
@@ -111,7 +115,19 @@ module _ (s : List ℕ) (first end : ℕ) where
           rows-left = omega (arith, b .rows-left, f, t .whole l d);
         }
 
-    -- within a role there are too many already
+    -- within a role there are too many derived roles already
+    pub entries-stop : (n limit : ℕ) {pairs marks : List ℕ} (m : ℕ) → r < end → n ≤ 33345 → RoleDerivedTo limit s r n pairs marks m
+        → (room : ℕ) → room < lengthWith (d + m) rows → CountedTo (rewriteRoles (rotaOf s) first end) room (record { entries = d + m; rows = rows })
+    unfolding sizeOf
+    entries-stop n limit m h few q room over =
+        record {
+          few = omega (arith, b .few-roles, b .few, q .few);
+          few-rows = omega (arith, b .few-roles, b .few-rows);
+          exact = λ l. absurd (omega arith);
+          over = λ l. omega (arith, b .entries, b .rows-left, entries-split h, q .least);
+        }
+
+    -- or too many rows
     pub counted-stop : (n : ℕ) {pairs marks : List ℕ} (m k limit : ℕ) → r < end → n ≤ 33345 → RoleDerived s r n pairs marks m → RowsTo limit s r k
         → (room : ℕ) → room < lengthWith (d + m) (rows + k)
         → CountedTo (rewriteRoles (rotaOf s) first end) room (record { entries = d + m; rows = rows + k })

@@ -13,7 +13,7 @@ pub struct Count {
 }
 
 // Counts the derived roles and rows of the roles from `first` on, up to `end`. It stops as soon as a table of so many is longer than the room, since
-// the length only grows: within a role by its rows alone, of 16 bytes each.
+// the length only grows: within a role by its derived roles alone, of 17 bytes each, and then by its rows alone, of 16.
 pub fn count_all(
     s: &[u8],
     l: Layout,
@@ -38,7 +38,10 @@ pub fn count_all(
     let mut rows = 0;
     let mut r = first;
     while r < end {
-        d += roles::derive_role(s, l, r, sets, n, pairs, marks, links, w);
+        d += roles::derive_role(s, l, r, sets, n, room / 17, pairs, marks, links, w);
+        if room < 16 + 17 * d + 16 * rows {
+            return Count { entries: d, rows };
+        }
         rows += writing::count_rows(kinds, ne, nc, marks, room / 16);
         if room < 16 + 17 * d + 16 * rows {
             return Count { entries: d, rows };

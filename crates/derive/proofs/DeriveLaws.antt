@@ -18,6 +18,7 @@ use Rattle.bitset.proofs.SetLaws.{has-none}
 use Rattle.table.specs.Table.{Entry}
 use Rattle.derivation.specs.Roles.{nextEntries, markOf, derivedFrom, marksFrom}
 use Rattle.derivation.specs.Kinds.{masksIn}
+use Rattle.derivation.proofs.RoleMarks.{derived-length}
 use Rattle.derivation.proofs.KindLaws.{map-at, known-next, known-same, mark-next}
 use Rattle.index.specs.Entries.{entriesTo}
 use Rattle.index.proofs.EntryLaws.{entries-length, entries-none}
@@ -28,7 +29,7 @@ use Rattle.marking.specs.Role.{setsMade, setsIn, keptWith, keptBy}
 use Rattle.marking.specs.Mark.{Marked}
 use Rattle.marking.proofs.MarkLaws.{grown-yes, grown-no}
 use Rattle.derive.specs.declared.Step.{Step}
-use Rattle.derive.specs.Derive.{Settled, Stepped, Room, Derived}
+use Rattle.derive.specs.Derive.{Settled, Stepped, Room, Derived, DerivedTo}
 use Rattle.derive.proofs.ScratchLaws.{room-kept}
 
 -- ---- what is settled
@@ -140,7 +141,7 @@ module _ {role : Role} {sets : List ℕ} {n : ℕ} {pairs marks : List ℕ} {d i
         marks-so = marks-turn (keptBy role) ms i hi′ es (entriesTo (role .source) (k .entries) pairs′) (k .mark) em ee marks hm ∙ s .marks-so;
       }
 
-  pub deriving-end : n ≤ i → Derived role sets n pairs marks d
+  deriving-end : n ≤ i → Derived role sets n pairs marks d
   deriving-end h =
       let e : i ≡ n = omega (arith, s .within) in
       let es = entriesTo (role .source) d pairs in
@@ -160,6 +161,21 @@ module _ {role : Role} {sets : List ℕ} {n : ℕ} {pairs marks : List ℕ} {d i
 
       no-marks : (es : List Entry) → drop i (masksIn sets n) ≡ [] → marksFrom (keptBy role) es (drop i (masksIn sets n)) ≡ []
       no-marks es z = ap (marksFrom (keptBy role) es) z ∙ (unfold marksFrom in refl)
+
+  -- what is left adds to it
+  pub deriving-to : (limit : ℕ) → (d ≤ limit → n ≤ i) → DerivedTo limit role sets n pairs marks d
+  deriving-to limit ends =
+      record {
+        few = omega (arith, s .few, s .within);
+        least =
+            omega (
+              arith,
+              entries-length (role .source) d pairs,
+              derived-length (keptBy role) (entriesTo (role .source) d pairs) (drop i (masksIn sets n)) .0,
+              ap length (s .entries),
+            );
+        whole = λ h. deriving-end (ends h);
+      }
 
 -- with no hours the role has nothing
 pub kept-nothing : (role : Role) → keptBy role 0 ≡ none

@@ -51,3 +51,9 @@ pub record Derived (role : Role) (sets : List ℕ) (n : ℕ) (pairs marks : List
   pub count-is : d ≡ length (derivedFrom (keptBy role) [] (masksIn sets n))
   pub entries-are : entriesTo (role .source) d pairs ≡ derivedFrom (keptBy role) [] (masksIn sets n)
   pub marks-are : take (n + 1) marks ≡ 0 ∷ marksFrom (keptBy role) [] (masksIn sets n)
+
+-- a role so far as it was derived: no more than it has, and the whole where its derived roles are not over the limit
+pub record DerivedTo (limit : ℕ) (role : Role) (sets : List ℕ) (n : ℕ) (pairs marks : List ℕ) (d : ℕ) : Type 0 where
+  pub few : d ≤ n
+  pub least : d ≤ length (derivedFrom (keptBy role) [] (masksIn sets n))
+  pub whole : d ≤ limit → Derived role sets n pairs marks d

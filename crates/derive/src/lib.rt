@@ -7,7 +7,7 @@ ghost use Rattle.bitset.specs.Sets.{insert};
 ghost use Rattle.trees.specs.Tree.{Indexed};
 ghost use Rattle.index.specs.Entries.{entriesTo};
 ghost use Rattle.marking.specs.Role.{keptBy};
-ghost use Rattle.derive.specs.Derive.{roleMade, Ready, Settled, Stepped, Room, Derived};
+ghost use Rattle.derive.specs.Derive.{roleMade, Ready, Settled, Stepped, Room, DerivedTo};
 use marking::Role;
 
 // The mark of a mask, and how many derived roles there are with it.
@@ -82,18 +82,20 @@ fn next_mark(
 }
 
 // The marks of the masks with the first n sets of hours, behind that of kind 0, and the pairs of sets that they are the numbers of: how many pairs. The
-// index of the pairs has w trees, and goes by the members a and b: all users and all permissions that the role can have.
+// index of the pairs has w trees, and goes by the members a and b: all users and all permissions that the role can have. It stops once it has more than
+// `limit` pairs.
 pub fn derive(
     role: Role,
     sets: &[u32],
     n: usize,
+    limit: usize,
     pairs: &mut [u64],
     marks: &mut [u16],
     links: &mut [u16],
     w: usize,
 ) -> usize
     requires { ⌜ (role .on < 33) × Room n w (now sets) (now pairs) (now marks) (now links) ⌝ }
-    ensures { λ d. ⌜ Derived role (now (sets .entry)) n (now (pairs .exit)) (now (marks .exit)) d ⌝ }
+    ensures { λ d. ⌜ DerivedTo limit role (now (sets .entry)) n (now (pairs .exit)) (now (marks .exit)) d ⌝ }
 {
     let source = role.source;
     let on = role.on;
@@ -115,6 +117,9 @@ pub fn derive(
     let mut mark = 0;
     let mut i = 0;
     while i < n {
+        if limit < d {
+            return d;
+        }
         let m = bitset::both(mask_at(sets, i), named);
         let k = next_mark(
             source,

@@ -47,7 +47,7 @@ pub fn write_all(
     let mut p = 16 + 17 * total;
     let mut r = first;
     while r < end {
-        let m = roles::derive_role(s, l, r, masks, n, pairs, marks, links, w);
+        let m = roles::derive_role(s, l, r, masks, n, 33345, pairs, marks, links, w);
         writing::write_entries(out, 16 + 17 * d, r, pairs, m);
         p = writing::write_rows(out, p, d as u32, eras, ne, cells, nc, kinds, marks);
         d += m;

@@ -144,6 +144,28 @@ fn rewrite_large(
     )
 }
 
+// It is called from two places, so that it is compiled by itself: a small rota does not pay for a frame of the largest size.
+fn rewrite_more(
+    s: &[u8],
+    l: Layout,
+    first: u8,
+    end: u8,
+    out: &mut [u8],
+    eras: &[u32],
+    ne: usize,
+    cells: &[u32],
+    nc: usize,
+) -> Rewritten
+    requires { ⌜ Located (now s) l × (first ≤ end) × (end ≤ rolesOf (now s)) × Parted (now s) (now eras) ne (now cells) nc ⌝ }
+    ensures { λ r. ⌜ (writtenGiven r ≡ placedOutcome (rewriteRoles (rotaOf (now (s .entry))) first end) (length (now (out .entry))))
+        × (now (out .exit) ≡ placedArea (rewriteRoles (rotaOf (now (s .entry))) first end) (now (out .entry))) ⌝ }
+{
+    if ne * nc <= 4096 {
+        return rewrite_middle(s, l, first, end, out, eras, ne, cells, nc);
+    }
+    rewrite_large(s, l, first, end, out, eras, ne, cells, nc)
+}
+
 // Rewrites the roles from `first` on, up to `end`, of a rota that is read.
 fn rewrite_located(s: &[u8], l: Layout, first: u8, end: u8, out: &mut [u8]) -> Rewritten
     requires { ⌜ Located (now s) l × (first ≤ end) × (end ≤ rolesOf (now s)) ⌝ }
@@ -155,15 +177,13 @@ fn rewrite_located(s: &[u8], l: Layout, first: u8, end: u8, out: &mut [u8]) -> R
     let cells = division.cells;
     let ne = division.era_count;
     let nc = division.cell_count;
-    if nc <= 128 {
-        if ne * nc <= 128 {
-            return rewrite_small(s, l, first, end, out, &eras, ne, &cells, nc);
-        }
+    if 128 < nc {
+        return rewrite_more(s, l, first, end, out, &eras, ne, &cells, nc);
     }
-    if ne * nc <= 4096 {
-        return rewrite_middle(s, l, first, end, out, &eras, ne, &cells, nc);
+    if ne * nc <= 128 {
+        return rewrite_small(s, l, first, end, out, &eras, ne, &cells, nc);
     }
-    rewrite_large(s, l, first, end, out, &eras, ne, &cells, nc)
+    rewrite_more(s, l, first, end, out, &eras, ne, &cells, nc)
 }
 
 // Rewrites a rota into an area: 1 to 12 as it is read, then 20 exactly where the table is longer than the area, which then stays as it came; else

@@ -25,9 +25,9 @@ use Rattle.kinds.specs.Kinds.{masksOf}
 use Rattle.marking.specs.declared.Role.{Role}
 use Rattle.marking.specs.Role.{keptBy, roleOf}
 use Rattle.marking.proofs.RoleLaws.{kept-by}
-use Rattle.derive.specs.Derive.{Derived}
+use Rattle.derive.specs.Derive.{Derived, DerivedTo}
 use Rattle.derive.proofs.DeriveLaws.{kept-nothing, masks-length}
-use Rattle.roles.specs.Parts.{SetsAre, RoleDerived}
+use Rattle.roles.specs.Parts.{SetsAre, RoleDerived, RoleDerivedTo}
 
 all-by : (P : Window → Type 0) (l : List Window) → ((f : Window) → List·Memᴰ f l → P f) → All P l
 all-by P [] h = tt
@@ -66,7 +66,7 @@ module _ (s : List ℕ) (clear : rotaJudged s ≡ 0) (r : ℕ) (few : r < rolesO
             sym (getD-take (n + 1) marks k 0 (omega arith))
             ∙ ap (λ (q : List ℕ). getD q k 0) (e ∙ ap (λ (ms : List ℕ). 0 ∷ marksFrom (keptBy role) [] ms) are)
 
-    pub role-derived : (pairs marks : List ℕ) (d : ℕ) → Derived role sets n pairs marks d → RoleDerived s r n pairs marks d
+    role-derived : (pairs marks : List ℕ) (d : ℕ) → Derived role sets n pairs marks d → RoleDerived s r n pairs marks d
     unfolding roleOf
     role-derived pairs marks d q =
         record {
@@ -77,3 +77,7 @@ module _ (s : List ℕ) (clear : rotaJudged s ≡ 0) (r : ℕ) (few : r < rolesO
               λ base.
               ap (rowsMarked base (fields (rotaOf s))) (field-marks marks (q .marks-are)) ∙ sym (role-rows (rotaOf s) r (keptBy role) (masksOf s) agree base);
         }
+
+    pub role-derived-to : (limit : ℕ) (pairs marks : List ℕ) (d : ℕ) → DerivedTo limit role sets n pairs marks d → RoleDerivedTo limit s r n pairs marks d
+    role-derived-to limit pairs marks d q =
+        record { few = q .few; least = omega (arith, q .least, ap length entries-all); whole = λ h. role-derived pairs marks d (q .whole h) }

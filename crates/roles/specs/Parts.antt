@@ -28,3 +28,9 @@ pub record RoleDerived (s : List ℕ) (r n : ℕ) (pairs marks : List ℕ) (d : 
   pub entries-are : entriesTo r d pairs ≡ entriesAt (rotaOf s) r
   pub entry-count : d ≡ length (entriesAt (rotaOf s) r)
   pub rows-are : (base : ℕ) → rowsMarked base (fields (rotaOf s)) (map (byKind marks) (kindsFrom [] (masksOf s))) ≡ rowsAt (rotaOf s) r base
+
+-- so far as the role was derived: no more than it has, and the whole where its derived roles are not over the limit
+pub record RoleDerivedTo (limit : ℕ) (s : List ℕ) (r n : ℕ) (pairs marks : List ℕ) (d : ℕ) : Type 0 where
+  pub few : d ≤ n
+  pub least : d ≤ length (entriesAt (rotaOf s) r)
+  pub whole : d ≤ limit → RoleDerived s r n pairs marks d

@@ -7,7 +7,7 @@ ghost use Rattle.rota.specs.RotaBytes.{rolesOf, rotaOf, rowAt};
 ghost use Rattle.derivation.specs.Masks.{slotOf};
 ghost use Rattle.marking.specs.Role.{bySlot, roleOf};
 ghost use Rattle.derive.specs.Derive.{Room};
-ghost use Rattle.roles.specs.Parts.{RowsFit, SetsAre, RoleDerived};
+ghost use Rattle.roles.specs.Parts.{RowsFit, SetsAre, RoleDerivedTo};
 use hours::HoursRef;
 use marking::Role;
 use rota::Layout;
@@ -56,20 +56,22 @@ fn role_of(s: &[u8], l: Layout, r: u8) -> Role
 }
 
 // The derived roles of role r, in `pairs`, and the mark of each kind, the first n + 1 places of `marks`: how many derived roles.
+// It stops once it has more than `limit` of them.
 pub fn derive_role(
     s: &[u8],
     l: Layout,
     r: u8,
     sets: &[u32],
     n: usize,
+    limit: usize,
     pairs: &mut [u64],
     marks: &mut [u16],
     links: &mut [u16],
     w: usize,
 ) -> usize
     requires { ⌜ Located (now s) l × (r < rolesOf (now s)) × Room n w (now sets) (now pairs) (now marks) (now links) × SetsAre (now s) (now sets) n ⌝ }
-    ensures { λ d. ⌜ RoleDerived (now (s .entry)) r n (now (pairs .exit)) (now (marks .exit)) d ⌝ }
+    ensures { λ d. ⌜ RoleDerivedTo limit (now (s .entry)) r n (now (pairs .exit)) (now (marks .exit)) d ⌝ }
 {
     let role = role_of(s, l, r);
-    derive::derive(role, sets, n, pairs, marks, links, w)
+    derive::derive(role, sets, n, limit, pairs, marks, links, w)
 }

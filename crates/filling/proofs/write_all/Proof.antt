@@ -5,7 +5,7 @@ use Prim.Native.Nat.{_-_}
 use Rattle.minutes.specs.Minutes.{E}
 use Rattle.roles.proofs.LocatedLaws.{roles-are, cycle-fits}
 use Rattle.derive.proofs.ScratchLaws.{Lent, lent-start, lent-on, room-lent}
-use Rattle.counting.proofs.CountLaws.{have-marks, role-rows-are}
+use Rattle.counting.proofs.CountLaws.{whole-role, have-marks, role-rows-are}
 use Rattle.filling.proofs.FillLaws.{Filling, filling-start, filling-turn, filling-end, entries-room, rows-room, cuts-to, size-room}
 -- What is left to write of entries and rows, written from here, is the whole: a role's entries and rows come off the front of each.
 use Rattle.filling.proofs.write_all.Statement.{statement}
@@ -41,8 +41,8 @@ write-entries-requires c κs =
     let l = c .before .before .before .before .before .before .before .before .before .before .before .before .before .loop in
     let k = c .before .before .before .before .before .before .before .before .derive-role in
     let z = size-room _ _ _ (p .1 .0) (p .1 .1) in (
-      entries-room _ _ _ _ _ (l .out) (l .d) (l .p) (l .r) (l .inv .0) _ _ _ (k .result) (c .before .before .before .before .before .before .before .before .before .before .before .before .loop-test .taken) (p .0 .3 .few) (k .ensures) (omega arith),
-      omega (arith, k .ensures .few, p .0 .3 .for-pairs, l .inv .1 .of-pairs, k .kept .1 .1 .1 .1 .1 .0),
+      entries-room _ _ _ _ _ (l .out) (l .d) (l .p) (l .r) (l .inv .0) _ _ _ (k .result) (c .before .before .before .before .before .before .before .before .before .before .before .before .loop-test .taken) (p .0 .3 .few) (whole-role (p .0 .3 .few) (k .ensures)) (omega arith),
+      omega (arith, k .ensures .few, p .0 .3 .for-pairs, l .inv .1 .of-pairs, k .kept .1 .1 .1 .1 .1 .1 .0),
     )
 
 cast-write-rows : tie.Need-cast-write-rows Inv-loop μ-loop
@@ -56,11 +56,11 @@ write-rows-requires c κs =
     let l = c .before .before .before .before .before .before .before .before .before .before .before .before .before .before .before .before .before .before .loop in
     let k = c .before .before .before .before .before .before .before .before .before .before .before .before .before .derive-role in
     let z = size-room _ _ _ (p .1 .1 .0) (p .1 .1 .1) in
-    let e = role-rows-are (g .0) (g .1) (k .ensures) (l .d) in
-    let y = rows-room _ _ _ _ _ (l .out) (l .d) (l .p) (l .r) (l .inv .0) _ _ _ (k .result) (c .before .before .before .before .before .before .before .before .before .before .before .before .before .before .before .before .before .loop-test .taken) (g .3 .few) (k .ensures) z in (
+    let e = role-rows-are (g .0) (g .1) (whole-role (g .3 .few) (k .ensures)) (l .d) in
+    let y = rows-room _ _ _ _ _ (l .out) (l .d) (l .p) (l .r) (l .inv .0) _ _ _ (k .result) (c .before .before .before .before .before .before .before .before .before .before .before .before .before .before .before .before .before .loop-test .taken) (g .3 .few) (whole-role (g .3 .few) (k .ensures)) z in (
       (omega (arith, ap length e, y, c .before .before .before .before .write-entries .kept .0), omega (arith, l .inv .0 .few, l .inv .0 .within, l .inv .0 .few-roles)),
       (
-        have-marks (g .1) _ (g .2) (g .3 .for-sets) (omega (arith, g .3 .for-marks, l .inv .1 .of-marks, k .kept .1 .1 .1 .1 .1 .1 .0)),
+        have-marks (g .1) _ (g .2) (g .3 .for-sets) (omega (arith, g .3 .for-marks, l .inv .1 .of-marks, k .kept .1 .1 .1 .1 .1 .1 .1 .0)),
         cuts-to E (omega arith) (g .0 .era-cuts),
         cuts-to 65535 (cycle-fits (a .s .now) (a .l) (p .0 .0)) (g .0 .cell-cuts),
       ),
@@ -80,10 +80,10 @@ loop-again c =
     let g = c .before .before .before .before .before .before .before .before .before .before .before .before .before .before .before .before .before .before .before .before .before .before .before .before .before .before .before .before .before .before .before .pre .1 .0 in
     let l = c .before .before .before .before .before .before .before .before .before .before .before .before .before .before .before .before .before .before .before .before .before .loop in
     let k = c .before .before .before .before .before .before .before .before .before .before .before .before .before .before .before .before .derive-role in (
-      filling-turn _ _ _ _ _ (l .out) (l .d) (l .p) (l .r) (l .inv .0) _ _ _ (k .result) (c .before .before .before .before .before .before .before .before .before .before .before .before .before .before .before .before .before .before .before .before .loop-test .taken) (g .3 .few) (k .ensures)
-          _ _ _ _ (role-rows-are (g .0) (g .1) (k .ensures) (l .d))
+      filling-turn _ _ _ _ _ (l .out) (l .d) (l .p) (l .r) (l .inv .0) _ _ _ (k .result) (c .before .before .before .before .before .before .before .before .before .before .before .before .before .before .before .before .before .before .before .before .loop-test .taken) (g .3 .few) (whole-role (g .3 .few) (k .ensures))
+          _ _ _ _ (role-rows-are (g .0) (g .1) (whole-role (g .3 .few) (k .ensures)) (l .d))
           (c .before .before .before .before .before .before .before .write-entries .ensures) (c .before .before .write-rows .ensures .0) (c .before .before .write-rows .ensures .1),
-      lent-on (l .inv .1) (k .kept .1 .1 .1 .1 .1 .0) (k .kept .1 .1 .1 .1 .1 .1 .0) (k .kept .1 .1 .1 .1 .1 .1 .1 .0),
+      lent-on (l .inv .1) (k .kept .1 .1 .1 .1 .1 .1 .0) (k .kept .1 .1 .1 .1 .1 .1 .1 .0) (k .kept .1 .1 .1 .1 .1 .1 .1 .1 .0),
     )
 
 same-length : tie.Need-same-length Inv-loop μ-loop

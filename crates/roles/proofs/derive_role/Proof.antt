@@ -1,5 +1,5 @@
 use native.Mathlib.Omega.{arith}
-use Rattle.roles.proofs.DerivedLaws.{role-derived}
+use Rattle.roles.proofs.DerivedLaws.{role-derived-to}
 use Rattle.roles.proofs.LocatedLaws.{role-on}
 use borrow.Author.Needs.{needs}
 use Rattle.roles.proofs.derive_role.Statement.{statement}
@@ -21,7 +21,7 @@ same-length-3 : tie.Need-same-length-3
 same-length-3 c = search needs
 
 returns : tie.Need-returns
-returns c = let a = c .before .before .before .before .before .before .before .before .before .before .before .before .before .before .before .before .args in let p = c .before .before .before .before .before .before .before .before .before .before .before .before .before .before .before .before .pre in role-derived (a .s .now) (p .0 .accepted) (a .r) (p .1) _ (c .before .before .before .before .before .before .before .before .before .before .role-of .ensures) (a .sets .now) (a .n) (p .3) (p .2 .for-sets) _ _ _ (c .before .before .before .before .before .before .derive .ensures)
+returns c = let a = c .before .before .before .before .before .before .before .before .before .before .before .before .before .before .before .before .args in let p = c .before .before .before .before .before .before .before .before .before .before .before .before .before .before .before .before .pre in role-derived-to (a .s .now) (p .0 .accepted) (a .r) (p .1) _ (c .before .before .before .before .before .before .before .before .before .before .role-of .ensures) (a .sets .now) (a .n) (p .3) (p .2 .for-sets) (a .limit) _ _ _ (c .before .before .before .before .before .before .derive .ensures)
 
 pub derive-role-spec : {M : Type 1} → statement M
 derive-role-spec =
