@@ -91,6 +91,9 @@ pub spread-fits : (u p : ℕ) → u < 2 ^ 64 → p < 2 ^ 64
     → (u % 4294967296) * 1036654187 + (u / 4294967296) * 961748927 + (p % 4294967296) * 870640927 + (p / 4294967296) * 1012924417 < 2 ^ 64
 spread-fits u p hu hp = let v = halves u hu in let q = halves p hp in four _ _ _ _ (v .0) (v .1) (q .0) (q .1)
 
+pub square-fits : (z : ℕ) → z % 2147483648 * (z % 2147483648) < 2 ^ 64
+square-fits z = let l : z % 2147483648 ≤ 2147483648 = omega arith in lt-of-le-of-lt (mul-le-mul l l) (omega arith)
+
 pub scale-fits : (z w : ℕ) → w ≤ 16384 → z % 16384 * w < 2 ^ 64
 scale-fits z w h = lt-of-le-of-lt (mul-le-mul (le-of-lt (mod-lt z (omega arith))) h) (omega arith)
 

@@ -38,11 +38,12 @@ pub record Turned (a b u p : ℕ) (t : Turn) : Type 0 where
   pub first : turnsOf a b u p ≡ bit ∷ turnsOf (t .users) (t .permissions) u p
 
 -- the place of the links where the walk that seeks u and p begins, one of w: the high halves and the low halves are spread by four multipliers, and of
--- the sum 14 bits count, scaled to the number of trees; which place it is does not matter to what is promised
+-- the square of the sum's middle 14 bits count, scaled to the number of trees; which place it is does not matter to what is promised
 unfoldable pub bucketOf : ℕ → ℕ → ℕ → ℕ
 bucketOf w u p =
-    (((u % 4294967296) * 1036654187 + (u / 4294967296) * 961748927 + (p % 4294967296) * 870640927 + (p / 4294967296) * 1012924417) / 1048576 % 16384) * w
-    / 16384
+    let y =
+    ((u % 4294967296) * 1036654187 + (u / 4294967296) * 961748927 + (p % 4294967296) * 870640927 + (p / 4294967296) * 1012924417) / 1048576 % 2147483648 in
+    (y * y / 1048576 % 16384) * w / 16384
 
 -- the place of the links that has a child of pair k, after the w roots
 abbrev pub childAt : ℕ → ℕ → Bool → ℕ

@@ -63,7 +63,8 @@ fn bucket(u: u64, p: u64, w: usize) -> usize
         + (u / 4294967296) * 961748927
         + (p % 4294967296) * 870640927
         + (p / 4294967296) * 1012924417;
-    (sum / 1048576 % 16384) as usize * w / 16384
+    let y = sum / 1048576 % 2147483648;
+    (y * y / 1048576 % 16384) as usize * w / 16384
 }
 
 // Where u and p stand among the first n pairs; or n, and where the walk that seeks them ends.

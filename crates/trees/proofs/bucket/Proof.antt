@@ -1,6 +1,6 @@
 use mathlib.Core.Path.{refl}
 use Rattle.trees.specs.Tree.{bucketOf}
-use Rattle.trees.proofs.TurnLaws.{bucket-small, spread-fits, scale-fits}
+use Rattle.trees.proofs.TurnLaws.{bucket-small, spread-fits, square-fits, scale-fits}
 use borrow.Author.Needs.{needs}
 use Rattle.trees.proofs.bucket.Statement.{statement}
 use Rattle.trees.proofs.bucket.Tie as tie
@@ -27,7 +27,10 @@ add-sum-3 : tie.Need-add-sum-3
 add-sum-3 c = record { fits = spread-fits (c .args .u) (c .args .p) (c .fits .u .fits) (c .fits .p .fits) }
 
 mul-result : tie.Need-mul-result
-mul-result c = record { fits = scale-fits _ (c .args .w) (c .pre .1) }
+mul-result c = record { fits = square-fits _ }
+
+mul-result-2 : tie.Need-mul-result-2
+mul-result-2 c = record { fits = scale-fits _ (c .args .w) (c .pre .1) }
 
 returns : tie.Need-returns
 unfolding bucketOf
@@ -36,4 +39,4 @@ returns c = (refl, bucket-small (c .args .w) (c .args .u) (c .args .p) (c .pre .
 pub bucket-spec : {M : Type 1} → statement M
 bucket-spec =
     tie.close
-    (tie.spec mul-sum mul-sum-2 add-sum mul-sum-3 add-sum-2 mul-sum-4 add-sum-3 mul-result returns)
+    (tie.spec mul-sum mul-sum-2 add-sum mul-sum-3 add-sum-2 mul-sum-4 add-sum-3 mul-result mul-result-2 returns)
