@@ -13,8 +13,7 @@ use area::Rewritten;
 use rota::Layout;
 use rota::LayoutAnswer;
 
-// Scratch is cleared before use, so it comes in three sizes, each in a function of its own: a small rota does not pay for the largest. The two that are
-// larger are called from two places each, so that they are compiled by themselves, with frames of their own.
+// Scratch is cleared before use, so it comes in three sizes, each in a function of its own: a small rota does not pay for the largest.
 fn rewrite_small(
     s: &[u8],
     l: Layout,
@@ -145,6 +144,28 @@ fn rewrite_large(
     )
 }
 
+// It is called from two places, so that it is compiled by itself: a small rota does not pay for a frame of the largest size.
+fn rewrite_more(
+    s: &[u8],
+    l: Layout,
+    first: u8,
+    end: u8,
+    out: &mut [u8],
+    eras: &[u32],
+    ne: usize,
+    cells: &[u32],
+    nc: usize,
+) -> Rewritten
+    requires { ⌜ Located (now s) l × (first ≤ end) × (end ≤ rolesOf (now s)) × Parted (now s) (now eras) ne (now cells) nc ⌝ }
+    ensures { λ r. ⌜ (writtenGiven r ≡ placedOutcome (rewriteRoles (rotaOf (now (s .entry))) first end) (length (now (out .entry))))
+        × (now (out .exit) ≡ placedArea (rewriteRoles (rotaOf (now (s .entry))) first end) (now (out .entry))) ⌝ }
+{
+    if ne * nc <= 4096 {
+        return rewrite_middle(s, l, first, end, out, eras, ne, cells, nc);
+    }
+    rewrite_large(s, l, first, end, out, eras, ne, cells, nc)
+}
+
 // Rewrites the roles from `first` on, up to `end`, of a rota that is read.
 fn rewrite_located(s: &[u8], l: Layout, first: u8, end: u8, out: &mut [u8]) -> Rewritten
     requires { ⌜ Located (now s) l × (first ≤ end) × (end ≤ rolesOf (now s)) ⌝ }
@@ -157,18 +178,12 @@ fn rewrite_located(s: &[u8], l: Layout, first: u8, end: u8, out: &mut [u8]) -> R
     let ne = division.era_count;
     let nc = division.cell_count;
     if 128 < nc {
-        if 4096 < ne * nc {
-            return rewrite_large(s, l, first, end, out, &eras, ne, &cells, nc);
-        }
-        return rewrite_middle(s, l, first, end, out, &eras, ne, &cells, nc);
+        return rewrite_more(s, l, first, end, out, &eras, ne, &cells, nc);
     }
     if ne * nc <= 128 {
         return rewrite_small(s, l, first, end, out, &eras, ne, &cells, nc);
     }
-    if ne * nc <= 4096 {
-        return rewrite_middle(s, l, first, end, out, &eras, ne, &cells, nc);
-    }
-    rewrite_large(s, l, first, end, out, &eras, ne, &cells, nc)
+    rewrite_more(s, l, first, end, out, &eras, ne, &cells, nc)
 }
 
 // Rewrites a rota into an area: 1 to 12 as it is read, then 20 exactly where the table is longer than the area, which then stays as it came; else
