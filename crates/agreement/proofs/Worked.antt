@@ -6,7 +6,6 @@ use mathlib.Core.List.{List, [], _∷_, _++_, map, List·Memᴰ, List·Memᴰ·h
 use native.Mathlib.Omega.{arith}
 use lib.ListN.{length}
 use Rattle.ground.specs.Judgement.{refuse, _orElse_, inTurn}
-use Rattle.ground.specs.Outcome.{outcome}
 use Rattle.ground.specs.Search.{any, anyBelow, firstOf, lowestBelow, countBelow}
 use Rattle.ground.specs.Sequence.{listOf, All}
 use Rattle.endian.specs.Numbers.{u16At, u32At}

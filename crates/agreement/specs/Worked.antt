@@ -1,5 +1,4 @@
 -- What document 01 marks for proof under "Worked minutes", and document 02 of S in items 3 and 4, as one statement.
-use Prim.Native.Nat.{ℕ}
 use mathlib.Core.Path.{_≡_}
 use mathlib.Core.Option.{none}
 use mathlib.Core.List.{List·Memᴰ}

@@ -27,7 +27,6 @@ use Rattle.writing.specs.Parts.{fieldMarks, HaveMarks, roleRows, runsOf, Counte
 use Rattle.writing.proofs.FieldLaws.{marks-long}
 use Rattle.writing.proofs.CountLaws.{runs-rows}
 use Rattle.counting.specs.Parts.{lengthWith, Laid, CountedTo}
-use Rattle.counting.specs.declared.Count.{Count}
 
 take-map : (f : ℕ → ℕ) (n : ℕ) (l : List ℕ) → take n (map f l) ≡ map f (take n l)
 take-map f zero l = refl

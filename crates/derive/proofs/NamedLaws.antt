@@ -1,9 +1,8 @@
 -- Hours that a role does not name make no difference to it.
 -- Assumes nothing.
-use Prim.Native.Nat.{ℕ, zero, suc, _≤_, _<_}
+use Prim.Native.Nat.{ℕ, zero, suc, _<_}
 use mathlib.Core.Path.{_≡_, refl, sym, _∙_, ap, ap₂}
 use mathlib.Core.Bool.{Bool, true, false, not, _&&_, _||_, and-true, or-true}
-use mathlib.Core.Option.{Option}
 use mathlib.Core.List.{List}
 use native.Mathlib.Omega.{arith}
 use lib.Dec.{eqb}
@@ -12,10 +11,8 @@ use borrow.Author.Tests.{eqb-true}
 use Rattle.ground.specs.Choice.{pick}
 use Rattle.bitset.specs.Sets.{has, insert, union, intersection}
 use Rattle.bitset.proofs.SetLaws.{has-insert, has-union, has-intersection, insert-self, union-nothing}
-use Rattle.table.specs.Table.{Entry}
 use Rattle.unions.specs.Union.{unionOf, inUse, usedIn}
 use Rattle.unions.proofs.UnionLaws.{union-lt, used-at}
-use Rattle.marking.specs.declared.Role.{Role}
 use Rattle.marking.specs.Role.{setsMade, setsIn, keptWith, keptBy}
 use Rattle.derive.specs.Derive.{roleMade}
 

@@ -1,17 +1,16 @@
 -- The masks that the code makes are the masks of the fields, and the arrays of cuts hold all that `Divided` says.
---     fields-are, fields-number              the fields by index, and how many fields there are
 --     mask-is                                the mask of one field
 --     masks-none, masks-more, masks-all      the masks of no era, of one era more, and of all
 --     eras-cut, cells-cut, divided           the arrays of cuts
 --     fields-few                             how many fields there are at most
 -- Assumes nothing.
 use Prim.Native.Nat.{ℕ, _+_, _-_, _*_, _%_, _≤_, _<_}
-use mathlib.Core.Path.{_≡_, refl, sym, ap, ap₂, _∙_}
+use mathlib.Core.Path.{_≡_, refl, sym, ap, _∙_}
 use mathlib.Core.Bool.{_&&_}
 use mathlib.Core.List.{List, [], _∷_, _++_, map, List·Memᴰ, append-assoc, append-nil, map-append}
 use native.Mathlib.Nat.{le-antisymm, mul-le-mul-right}
 use native.Mathlib.Omega.{arith}
-use lib.ListN.{length, getD, take}
+use lib.ListN.{length, getD}
 use Rattle.ground.specs.Choice.{pick}
 use Rattle.ground.specs.Sequence.{listOf}
 use Rattle.ground.proofs.BoolLaws.{by-ltb}
@@ -34,8 +33,6 @@ use Rattle.minutes.proofs.FirstLaws.{first-ge, first-left, first-right}
 use Rattle.derivation.specs.Masks.{maskOf}
 use Rattle.derivation.proofs.CutLaws.{Inside}
 use Rattle.derivation.proofs.ValueLaws.{era-values, cell-values, hoursCuts-length, pairsCuts-length}
-use Rattle.derivation.proofs.TableFields.{fieldsOf-length}
-use Rattle.grid.specs.declared.Division.{Division}
 use Rattle.cuts.specs.Added.{Added, hoursNo}
 use Rattle.grid.specs.Grid.{fieldMask, gapAt, InCells, maskIn, Cuts, masksTo, Parted, Divided}
 use Rattle.cuts.proofs.RecordLaws.{few-hours}
@@ -136,15 +133,6 @@ module _ (s : List ℕ) (ok : rotaJudged s ≡ 0) where
         let q : i ≡ ne = le-antisymm h l in
         ap (λ (es : List Gap). map (maskOf (rotaOf s)) (fieldsOf es (gaps (cellCuts (rotaOf s)))))
         (ap (λ (k : ℕ). listOf k (gapAt eras)) q ∙ sym (gaps-at _ eras ne (ce .long) (ce .are)))
-
-    pub fields-are : fields (rotaOf s) ≡ fieldsOf (listOf ne (gapAt eras)) (listOf nc (gapAt cells))
-    unfolding fields
-    fields-are = ap₂ fieldsOf (gaps-at _ eras ne (ce .long) (ce .are)) (gaps-at _ cells nc (cc .long) (cc .are))
-
-    pub fields-number : length (fields (rotaOf s)) ≡ ne * nc
-    fields-number =
-        ap length fields-are ∙ fieldsOf-length (listOf ne (gapAt eras)) (listOf nc (gapAt cells))
-        ∙ ap₂ _*_ (listOf-length ne (gapAt eras)) (listOf-length nc (gapAt cells))
 
   -- what the functions that add the cuts leave
   module _ {a b : List ℕ} {m : ℕ} where

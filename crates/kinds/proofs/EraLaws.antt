@@ -8,7 +8,6 @@ use native.Mathlib.Omega.{arith}
 use lib.ListN.{length, take, getD}
 use Rattle.ground.specs.Sequence.{listOf}
 use Rattle.derivation.specs.Kinds.{addMask, masksFrom, kindOf, kindsFrom}
-use Rattle.minutes.specs.Minutes.{E}
 use Rattle.hours.specs.Inside.{datesHold, recordsThat}
 use Rattle.rota.specs.RotaBytes.{headerLength}
 use Rattle.grid.specs.Grid.{maskIn, masksTo, Ready}

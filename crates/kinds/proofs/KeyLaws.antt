@@ -3,22 +3,21 @@
 --     found-same, found-none, found-entered    the mask before again, no minute, and a mask that the index entered
 --     held-none, held-entered       the index of no mask, and after one that was entered
 -- Assumes nothing.
-use Prim.Native.Nat.{ℕ, zero, suc, _+_, _^_, _≤_, _<_}
+use Prim.Native.Nat.{ℕ, suc, _+_, _^_, _≤_, _<_}
 use mathlib.Core.Path.{_≡_, refl, sym, _∙_, ap, ap₂, subst}
 use mathlib.Core.Bool.{Bool, true, false, _&&_, _||_, not}
 use mathlib.Core.List.{List, [], _∷_, _++_, map, map-append}
 use native.Mathlib.Omega.{arith}
 use native.Mathlib.Numerals.{add-one}
 use lib.Dec.{eqb, ltb}
-use lib.ListN.{length, getD}
 use lib.Pow.{pow-pos}
 use borrow.Author.Tests.{eq-eqb, ne-eqb, eqb-false, ltb-true, ltb-false}
 use Rattle.ground.specs.Choice.{pick}
 use Rattle.ground.specs.Search.{any}
-use Rattle.ground.specs.Sequence.{All, listOf}
-use Rattle.ground.proofs.ListLaws.{all-map, all-with, all-unit}
+use Rattle.ground.specs.Sequence.{All}
+use Rattle.ground.proofs.ListLaws.{all-map}
 use Rattle.ground.proofs.BoolLaws.{clash}
-use Rattle.ground.proofs.SequenceLaws.{listOf-length, listOf-same, map-listOf, listOf-all}
+use Rattle.ground.proofs.SequenceLaws.{listOf-same, map-listOf, listOf-all}
 use Rattle.bitset.specs.Sets.{has}
 use Rattle.bitset.proofs.SetLaws.{has-none, has-past, has-not}
 use Rattle.table.specs.Table.{Entry}
@@ -126,10 +125,6 @@ abbrev kindMade : ℕ → ℕ → Kind
 kindMade kind masks = record { kind = kind; masks = masks }
 
 module _ (m d : ℕ) (pairs : List ℕ) where
-  keys-length : length (keys d pairs) ≡ d
-  unfolding keys
-  keys-length = listOf-length d (usersAt pairs)
-
   -- the mask before again
   pub found-same : (last kind : ℕ) → Known (keys d pairs) last kind → m ≡ last → kind ≤ d → Found m d pairs pairs (kindMade kind d)
   found-same last kind k e h =

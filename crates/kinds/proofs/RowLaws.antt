@@ -7,7 +7,7 @@ use native.Mathlib.Omega.{arith}
 use native.Mathlib.Numerals.{add-one}
 use lib.ListN.{length, getD, take, drop, set, length-set}
 use lib.Seq.{take-suc-set, append-snoc, slice-empty, slice-cons}
-use Rattle.derivation.specs.Kinds.{addMask, masksFrom, kindOf, kindsFrom}
+use Rattle.derivation.specs.Kinds.{addMask, masksFrom, kindsFrom}
 use Rattle.kinds.specs.Kinds.{keys, Held, Known, Found, RowRoom}
 use Rattle.kinds.specs.declared.Kind.{Kind}
 use Rattle.kinds.proofs.KeyLaws.{known-none, known-next}

@@ -2,12 +2,11 @@
 // masks are numbered once for all roles, in the order of their first fields. A field without a minute is of kind 0, one with mask k of kind k + 1.
 ghost use mathlib.Core.Path.{_≡_};
 ghost use mathlib.Core.List.{_++_};
-ghost use Prim.Native.Nat.{ℕ, _+_, _*_, _≤_, _<_};
+ghost use Prim.Native.Nat.{_+_, _*_, _≤_, _<_};
 ghost use lib.ListN.{length, take};
 ghost use Rattle.ground.specs.Sequence.{listOf};
 ghost use Rattle.rota.specs.Inside.{Located};
 ghost use Rattle.derivation.specs.Kinds.{masksFrom, kindsFrom};
-ghost use Rattle.trees.specs.Tree.{Indexed};
 ghost use Rattle.grid.specs.Grid.{Parted, Ready};
 ghost use Rattle.kinds.specs.Kinds.{keys, Held, Known, Found, RowRoom, Room, bare, Numbered, NumberedTo};
 use rota::Layout;

@@ -2,7 +2,7 @@
 --     slot-small      a reference that names a record has a slot below 33
 --     kept-by         the law itself
 -- Assumes nothing.
-use Prim.Native.Nat.{ℕ, zero, suc, _^_, _≤_, _<_}
+use Prim.Native.Nat.{ℕ, zero, suc, _≤_, _<_}
 use mathlib.Core.Path.{_≡_, refl, sym, _∙_, ap, ap₂}
 use mathlib.Core.Bool.{Bool, true, false, not, _&&_, _||_, and-false, and-assoc, and-or-distrib-left}
 use mathlib.Core.Option.{none, some}

@@ -17,7 +17,7 @@ use Rattle.derivation.specs.Rewriting.{fields, keptAs}
 use Rattle.derivation.specs.Masks.{maskOf, keptIn}
 use Rattle.derivation.proofs.RewritingTheorems.{kept-mask}
 use Rattle.derivation.specs.Kinds.{masksFrom, kindsFrom, byKind, masksIn}
-use Rattle.derivation.specs.Roles.{entriesAt, rowsAt, derivedFrom, marksFrom, rowsMarked}
+use Rattle.derivation.specs.Roles.{entriesAt, derivedFrom, marksFrom, rowsMarked}
 use Rattle.derivation.proofs.KindLaws.{derived-kinds, marks-kinds, kinds-most}
 use Rattle.derivation.proofs.RoleMarks.{Agree, agree-masks, role-entries, role-rows}
 use Rattle.index.specs.Entries.{entriesTo}

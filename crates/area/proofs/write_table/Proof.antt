@@ -1,5 +1,4 @@
 use native.Mathlib.Omega.{arith}
-use mathlib.Core.Path.{_∙_}
 use Rattle.area.proofs.TableLaws.{header-fits, can-write, has-written, has-not}
 -- The size is that of the counts, which are the table's or already too many: so 20 is given exactly where the table does not fit, and else the header
 -- and all parts are written.

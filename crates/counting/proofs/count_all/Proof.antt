@@ -1,5 +1,5 @@
 use native.Mathlib.Omega.{arith}
-use mathlib.Core.Path.{refl, _∙_}
+use mathlib.Core.Path.{_∙_}
 use Prim.Native.Nat.{_-_}
 use Rattle.roles.proofs.LocatedLaws.{roles-are}
 use Rattle.derive.proofs.ScratchLaws.{Lent, lent-start, lent-on, room-lent}

@@ -1,6 +1,6 @@
 use native.Mathlib.Omega.{arith}
 use Prim.Native.Nat.{ℕ, _-_}
-use mathlib.Core.Path.{_≡_, refl, sym, _∙_, ap, ap₂}
+use mathlib.Core.Path.{_≡_, _∙_, ap, ap₂}
 use lib.ListN.{length-set}
 use Rattle.bitset.specs.Sets.{insert, union, intersection}
 use Rattle.unions.specs.Union.{unionOf, usedIn}

@@ -1,6 +1,6 @@
 use native.Mathlib.Omega.{arith}
 use lib.ListN.{length}
-use mathlib.Core.Path.{refl, _∙_, ap}
+use mathlib.Core.Path.{ap}
 use Prim.Native.Nat.{_-_}
 use Rattle.minutes.specs.Minutes.{E}
 use Rattle.roles.proofs.LocatedLaws.{roles-are, cycle-fits}

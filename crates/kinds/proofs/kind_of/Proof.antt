@@ -1,7 +1,4 @@
-use native.Mathlib.Omega.{arith}
 use Prim.Native.Nat.{_+_}
-use mathlib.Core.Path.{refl, sym}
-use borrow.Author.Tests.{eq-eqb, ne-eqb}
 use Rattle.kinds.proofs.KeyLaws.{found-same, found-none, found-entered, entered-alone, mask-within, held-same, after-old, after-new}
 use borrow.Author.Needs.{needs}
 use Rattle.kinds.proofs.kind_of.Statement.{statement}

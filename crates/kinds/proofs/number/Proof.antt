@@ -1,5 +1,5 @@
 use native.Mathlib.Omega.{arith}
-use mathlib.Core.Path.{refl, _∙_}
+use mathlib.Core.Path.{_∙_}
 use Rattle.rota.proofs.LocatedLaws.{counted, hours-at}
 use Rattle.rota.proofs.RotaTheorems.{accepted-well}
 use Rattle.kinds.proofs.KeyLaws.{held-none}

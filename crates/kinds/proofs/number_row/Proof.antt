@@ -1,6 +1,5 @@
 use native.Mathlib.Omega.{arith}
 use Prim.Native.Nat.{_-_}
-use mathlib.Core.Path.{_≡_}
 use Rattle.kinds.proofs.RowLaws.{Numbering, numbering-start, turn-room, numbering-turn, numbering-end}
 use Rattle.kinds.proofs.number_row.Statement.{statement}
 use Rattle.kinds.proofs.number_row.Tie as tie

@@ -1,4 +1,3 @@
-use native.Mathlib.Omega.{arith}
 use Rattle.roles.proofs.DerivedLaws.{role-derived-to}
 use Rattle.roles.proofs.LocatedLaws.{role-on}
 use borrow.Author.Needs.{needs}
