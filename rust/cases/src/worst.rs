@@ -168,9 +168,9 @@ pub fn long_walks() -> Cut {
     cut(MOST_OF_23_ERAS, MOST_OF_23_CELLS, 8, user, permission)
 }
 
-/// Against an index by buckets: 22 roles give user n and permission n in the same hours, for 23
-/// numbers n whose remainder by 13 is 4 to 8. A set of these, as a number, has a remainder by
-/// 8,191 that is a multiple of 16, and 31 + 1 times it is a multiple of 512.
+/// Against an index by 512 buckets, as it was once: 22 roles give user n and permission n in the
+/// same hours, for 23 numbers n whose remainder by 13 is 4 to 8. A set of these, as a number, has a
+/// remainder by 8,191 that is a multiple of 16, and 31 + 1 times it is a multiple of 512.
 pub fn one_bucket() -> Cut {
     fn given(i: u32) -> (u32, HoursRef) {
         (13 * (i / 5) + 4 + i % 5, lasting(i))
