@@ -45,7 +45,7 @@ pub laid : {s eras cells : List ℕ} {ne nc d : ℕ} {kinds masks : List ℕ} �
 laid {eras = eras} {cells} g q l = record { eras = eras; cells = cells; parted = g; numbered = q; kinds-long = l }
 
 -- scratch for m fields and h cells is scratch for n and nc
-pub scratch-of : {n nc m h most : ℕ} {held row kinds masks pairs marks links : List ℕ} → n ≤ 33345 → n ≤ m → nc ≤ h → 0 < most → most ≤ 16384 → length held ≡ h → length row ≡ h
+pub scratch-of : {n nc m h most : ℕ} {held row kinds masks pairs marks links : List ℕ} → n ≤ 33345 → n ≤ m → nc ≤ h → 0 < most → most ≤ 65536 → length held ≡ h → length row ≡ h
     → length kinds ≡ m → length masks ≡ m → length pairs ≡ 2 * m → length marks ≡ m + 1 → length links ≡ most + 2 * m
     → Scratch n nc most held row kinds masks pairs marks links
 scratch-of few l k p q eh er ek em ep en el =

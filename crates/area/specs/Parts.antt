@@ -43,4 +43,4 @@ pub record Scratch (n nc most : ℕ) (held row kinds masks pairs marks links : L
   pub for-marks : n < length marks
   pub for-links : most + 2 * n ≤ length links
   pub some : 0 < most
-  pub trees : most ≤ 16384
+  pub trees : most ≤ 65536

@@ -209,7 +209,7 @@ going-start role {sets} {n} {pairs = pairs} {marks} r x l =
 
 module _ {role : Role} {sets : List ℕ} {n w a b : ℕ} {pairs₀ marks₀ links₀ pairs marks links : List ℕ} {d last mark i : ℕ}
     (g : Going role sets n w a b pairs₀ marks₀ links₀ pairs marks links d last mark i) where
-  pub going-room : i < n → (2 * d + 1 < length pairs) × (w + 2 * d + 1 < length links) × (d < 33345) × (0 < w) × (w ≤ 16384)
+  pub going-room : i < n → (2 * d + 1 < length pairs) × (w + 2 * d + 1 < length links) × (d < 33345) × (0 < w) × (w ≤ 65536)
   going-room h =
       let r = g .room in (
         omega (arith, g .so-far .few, r .for-pairs),

@@ -43,7 +43,7 @@ pub record Room (n w : ℕ) (sets pairs marks links : List ℕ) : Type 0 where
   pub for-marks : n < length marks
   pub for-links : w + 2 * n ≤ length links
   pub some : 0 < w
-  pub trees : w ≤ 16384
+  pub trees : w ≤ 65536
 
 -- a whole role; its marks stand behind that of kind 0
 pub record Derived (role : Role) (sets : List ℕ) (n : ℕ) (pairs marks : List ℕ) (d : ℕ) : Type 0 where

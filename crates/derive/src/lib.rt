@@ -46,7 +46,7 @@ fn next_mark(
     last: u64,
     mark: usize,
 ) -> Step
-    requires { ⌜ (2 * d + 1 < length (now pairs)) × (w + 2 * d + 1 < length (now links)) × (d < 33345) × (0 < w) × (w ≤ 16384) × (on < 64) ⌝ }
+    requires { ⌜ (2 * d + 1 < length (now pairs)) × (w + 2 * d + 1 < length (now links)) × (d < 33345) × (0 < w) × (w ≤ 65536) × (on < 64) ⌝ }
     requires { ⌜ Ready (now users) «user_slots» (now «user_table») «user_groups» a × Ready (now permissions) «permission_slots» (now «permission_table») «permission_groups» b ⌝ }
     requires { ⌜ Indexed w d (now pairs) (now links) a b
         × Settled (entriesTo source d (now pairs)) (keptBy (roleMade source on (now users) (now permissions)) last) mark × (mark ≤ d) ⌝ }

@@ -19,7 +19,7 @@ fn add(
     p: u64,
     hook: usize,
 )
-    requires { ⌜ (2 * d + 1 < length (now pairs)) × (w + 2 * d + 1 < length (now links)) × (d < 33345) × (0 < w) × (w ≤ 16384) ⌝ }
+    requires { ⌜ (2 * d + 1 < length (now pairs)) × (w + 2 * d + 1 < length (now links)) × (d < 33345) × (0 < w) × (w ≤ 65536) ⌝ }
     requires { ⌜ Indexed w d (now pairs) (now links) a b × Within u a × Within p b × Absent d (now pairs) u p × Ends w d (now links) a b u p hook ⌝ }
     ensures { λ _. ⌜ (now (pairs .exit) ≡ withPair (now (pairs .entry)) d u p)
         × Indexed w (d + 1) (now (pairs .exit)) (now (links .exit)) a b ⌝ }
@@ -55,7 +55,7 @@ pub fn enter(
     u: u64,
     p: u64,
 ) -> usize
-    requires { ⌜ (2 * d + 1 < length (now pairs)) × (w + 2 * d + 1 < length (now links)) × (d < 33345) × (0 < w) × (w ≤ 16384) ⌝ }
+    requires { ⌜ (2 * d + 1 < length (now pairs)) × (w + 2 * d + 1 < length (now links)) × (d < 33345) × (0 < w) × (w ≤ 65536) ⌝ }
     requires { ⌜ Indexed w d (now pairs) (now links) a b × Within u a × Within p b ⌝ }
     ensures { λ k. ⌜ Entered source (entryMade source u p) d (now (pairs .entry)) (now (pairs .exit)) k
         × Indexed w (after d k) (now (pairs .exit)) (now (links .exit)) a b ⌝ }

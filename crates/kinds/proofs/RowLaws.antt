@@ -45,7 +45,7 @@ module _ {row : List ℕ} {n : ℕ} {kinds₀ : List ℕ} {first : ℕ} {pairs�
     (s : Numbering row n kinds₀ first pairs₀ links₀ w d kinds pairs links count last kind c) (room : RowRoom n d first w row kinds₀ pairs₀ links₀) where
   -- there is room for one more
   pub turn-room : c < n
-      → (2 * count + 1 < length pairs) × (w + 2 * count + 1 < length links) × (count < 33345) × (0 < w) × (w ≤ 16384)
+      → (2 * count + 1 < length pairs) × (w + 2 * count + 1 < length links) × (count < 33345) × (0 < w) × (w ≤ 65536)
   turn-room h = (
     omega (arith, s .most, s .long-pairs, room .for-pairs),
     omega (arith, s .most, s .long-links, room .for-links),

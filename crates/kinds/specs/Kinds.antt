@@ -45,7 +45,7 @@ pub record RowRoom (n d first w : ℕ) (row kinds pairs links : List ℕ) : Type
   pub for-pairs : 2 * (d + n) ≤ length pairs
   pub for-links : w + 2 * (d + n) ≤ length links
   pub some : 0 < w
-  pub most : w ≤ 16384
+  pub most : w ≤ 65536
 
 -- room for n fields, with w trees
 pub record Room (n w : ℕ) (kinds pairs links : List ℕ) : Type 0 where
@@ -54,7 +54,7 @@ pub record Room (n w : ℕ) (kinds pairs links : List ℕ) : Type 0 where
   pub for-pairs : 2 * n ≤ length pairs
   pub for-links : w + 2 * n ≤ length links
   pub some : 0 < w
-  pub most : w ≤ 16384
+  pub most : w ≤ 65536
 
 -- the kinds of all n fields, and the d distinct masks as they stand in the index
 pub record NumberedTo (s : List ℕ) (n d : ℕ) (kinds pairs : List ℕ) : Type 0 where

@@ -27,7 +27,7 @@ fn kind_of(
     w: usize,
     d: usize,
 ) -> Kind
-    requires { ⌜ (2 * d + 1 < length (now pairs)) × (w + 2 * d + 1 < length (now links)) × (d < 33345) × (0 < w) × (w ≤ 16384) ⌝ }
+    requires { ⌜ (2 * d + 1 < length (now pairs)) × (w + 2 * d + 1 < length (now links)) × (d < 33345) × (0 < w) × (w ≤ 65536) ⌝ }
     requires { ⌜ Held w d (now pairs) (now links) × Known (keys d (now pairs)) last kind × (kind ≤ d) ⌝ }
     ensures { λ k. ⌜ Found m d (now (pairs .entry)) (now (pairs .exit)) k × Held w (k .masks) (now (pairs .exit)) (now (links .exit)) ⌝ }
 {

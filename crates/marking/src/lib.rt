@@ -75,7 +75,7 @@ pub fn mark_field(
     b: u64,
     d: usize,
 ) -> usize
-    requires { ⌜ (2 * d + 1 < length (now pairs)) × (w + 2 * d + 1 < length (now links)) × (d < 33345) × (0 < w) × (w ≤ 16384) ⌝ }
+    requires { ⌜ (2 * d + 1 < length (now pairs)) × (w + 2 * d + 1 < length (now links)) × (d < 33345) × (0 < w) × (w ≤ 65536) ⌝ }
     requires { ⌜ Indexed w d (now pairs) (now links) a b × Within (x .users) a × Within (x .permissions) b ⌝ }
     ensures { λ m. ⌜ Marked source (keptWith source x) d (now (pairs .entry)) (now (pairs .exit)) m
         × Indexed w (grown d m) (now (pairs .exit)) (now (links .exit)) a b ⌝ }

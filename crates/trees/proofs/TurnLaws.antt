@@ -94,14 +94,14 @@ spread-fits u p hu hp = let v = halves u hu in let q = halves p hp in four _ _ _
 pub square-fits : (z : ℕ) → z % 2147483648 * (z % 2147483648) < 2 ^ 64
 square-fits z = let l : z % 2147483648 ≤ 2147483648 = omega arith in lt-of-le-of-lt (mul-le-mul l l) (omega arith)
 
-pub scale-fits : (z w : ℕ) → w ≤ 16384 → z % 16384 * w < 2 ^ 64
+pub scale-fits : (z w : ℕ) → w ≤ 65536 → z % 65536 * w < 2 ^ 64
 scale-fits z w h = lt-of-le-of-lt (mul-le-mul (le-of-lt (mod-lt z (omega arith))) h) (omega arith)
 
 -- less than 1, scaled to w
-scaled : (z w : ℕ) → 0 < w → z % 16384 * w / 16384 < w
+scaled : (z w : ℕ) → 0 < w → z % 65536 * w / 65536 < w
 scaled z w h =
-    div-lt-iff-lt-mul {k = 16384} {x = z % 16384 * w} {y = w} (omega arith) .1
-    (lt-of-lt-of-le (mul-lt-mul-of-pos-right (mod-lt z (omega arith)) h) (le-of-eq (mul-comm 16384 w)))
+    div-lt-iff-lt-mul {k = 65536} {x = z % 65536 * w} {y = w} (omega arith) .1
+    (lt-of-lt-of-le (mul-lt-mul-of-pos-right (mod-lt z (omega arith)) h) (le-of-eq (mul-comm 65536 w)))
 
 pub bucket-small : (w u p : ℕ) → 0 < w → bucketOf w u p < w
 unfolding bucketOf

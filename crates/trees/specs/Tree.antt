@@ -43,7 +43,7 @@ unfoldable pub bucketOf : ℕ → ℕ → ℕ → ℕ
 bucketOf w u p =
     let y =
     ((u % 4294967296) * 1036654187 + (u / 4294967296) * 961748927 + (p % 4294967296) * 870640927 + (p / 4294967296) * 1012924417) / 1048576 % 2147483648 in
-    (y * y / 1048576 % 16384) * w / 16384
+    (y * y / 1048576 % 65536) * w / 65536
 
 -- the place of the links that has a child of pair k, after the w roots
 abbrev pub childAt : ℕ → ℕ → Bool → ℕ

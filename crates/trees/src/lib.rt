@@ -56,7 +56,7 @@ fn next_turn(a: u64, b: u64, u: u64, p: u64) -> Turn
 
 // The tree of u and p, of w.
 fn bucket(u: u64, p: u64, w: usize) -> usize
-    requires { ⌜ (0 < w) × (w ≤ 16384) ⌝ }
+    requires { ⌜ (0 < w) × (w ≤ 65536) ⌝ }
     ensures { λ b. ⌜ (b ≡ bucketOf w u p) × (b < w) ⌝ }
 {
     let sum = (u % 4294967296) * 1036654187
@@ -64,7 +64,7 @@ fn bucket(u: u64, p: u64, w: usize) -> usize
         + (p % 4294967296) * 870640927
         + (p / 4294967296) * 1012924417;
     let y = sum / 1048576 % 2147483648;
-    (y * y / 1048576 % 16384) as usize * w / 16384
+    (y * y / 1048576 % 65536) as usize * w / 65536
 }
 
 // Where u and p stand among the first n pairs; or n, and where the walk that seeks them ends.
@@ -78,7 +78,7 @@ pub fn find(
     u: u64,
     p: u64,
 ) -> Found
-    requires { ⌜ (2 * n ≤ length (now pairs)) × (w + 2 * n ≤ length (now links)) × (n < 33345) × (0 < w) × (w ≤ 16384) ⌝ }
+    requires { ⌜ (2 * n ≤ length (now pairs)) × (w + 2 * n ≤ length (now links)) × (n < 33345) × (0 < w) × (w ≤ 65536) ⌝ }
     requires { ⌜ Indexed w n (now pairs) (now links) a b × Within u a × Within p b ⌝ }
     ensures { λ f. ⌜ Sought w n (now (pairs .entry)) (now (links .entry)) a b u p f ⌝ }
 {
