@@ -104,7 +104,7 @@ fn write_table(
     Rewritten::Refused(20)
 }
 
-// The number of trees of an index for n keys: as many, but one at least and `most` at most.
+// The number of trees of an index for n keys: twice as many, so that few keys share one, but one at least and `most` at most.
 fn trees(n: usize, most: usize) -> usize
     requires { ⌜ 0 < most ⌝ }
     ensures { λ w. ⌜ (0 < w) × (w ≤ most) ⌝ }
@@ -112,8 +112,8 @@ fn trees(n: usize, most: usize) -> usize
     if n == 0 {
         return 1;
     }
-    if n < most {
-        return n;
+    if n <= most / 2 {
+        return 2 * n;
     }
     most
 }
