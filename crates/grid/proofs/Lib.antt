@@ -3,3 +3,4 @@ pub mod FieldLaws
 pub mod JoinLaws
 pub mod MaskLaws
 pub mod LaidLaws
+pub mod StretchLaws
