@@ -1,19 +1,21 @@
 -- How many rows there are, counted by the marks alone.
 --     starts-none, starts-same, starts-one, starts-most    a field that begins no row, or one
 --     runs-rows                                            the count is the number of rows that are written
---     count-turn, runs-none, era-most                      a cell that is counted; none is left; no more rows than cells
+--     runs-stretches, stretches-rows                       the same by stretches: a stretch of cells with one mark counts once
+--     InCount, era-most                                    stretches of an era that are counted; no more rows than stretches
 --     Counting                                             eras that are counted
 -- Assumes nothing.
 use Prim.Native.Nat.{ℕ, zero, suc, _+_, _-_, _*_, _≤_, _<_}
-use mathlib.Core.Path.{_≡_, refl, sym, _∙_, ap, ap₂}
+use mathlib.Core.Path.{_≡_, refl, sym, _∙_, ap, ap₂, subst}
 use mathlib.Core.Bool.{Bool, true, false, not, _&&_}
 use mathlib.Core.List.{List, [], _∷_, _++_, map}
 use native.Mathlib.Omega.{arith}
-use native.Mathlib.Nat.{mul-le-mul-right}
+use native.Mathlib.Nat.{add-zero}
+use native.Mathlib.Numerals.{add-one}
 use borrow.Author.Tests.{eqb-true, eqb-false, eq-eqb, ne-eqb}
 use lib.Dec.{eqb}
-use lib.ListN.{length, take, drop, getD, length-append, length-drop}
-use lib.Seq.{length-take-le, length-slice, take-nil, take-take, drop-drop}
+use lib.ListN.{length, take, drop, getD, replicate, length-append, length-drop}
+use lib.Seq.{slice, slice-cons, slice-empty, length-take-le, length-slice, take-all, take-nil, take-take, take-append-le, drop-append-le}
 use Rattle.ground.specs.Choice.{pick}
 use Rattle.minutes.specs.Minutes.{Window}
 use Rattle.table.specs.Table.{Row}
@@ -25,8 +27,10 @@ use Rattle.derivation.proofs.CutLaws.{Above}
 use Rattle.derivation.proofs.RunLaws.{run-on, run-ends, run-last, rows-later, era-by-era}
 use Rattle.derivation.proofs.TableCuts.{gaps-length, gapsFrom-low, rising-above}
 use Rattle.grid.specs.Grid.{Cuts}
-use Rattle.writing.specs.Parts.{roleRows, startsRow, runsIn, runsOf, CountedRows}
-use Rattle.writing.proofs.FieldLaws.{gap, gaps-start, marked-front, marksLeft, marks-turn, marks-none, next-first}
+use Rattle.grid.specs.Stretches.{fieldKinds, stretchCount, Stretched}
+use Rattle.grid.proofs.StretchLaws.{fieldsFrom, fields-split, ends-rise}
+use Rattle.writing.specs.Parts.{fieldMarks, roleRows, startsRow, runsIn, runsOf, runsTo, CountedRows}
+use Rattle.writing.proofs.FieldLaws.{gap, gaps-start, mark-is, marks-long, marks-append, marked-front}
 
 -- ---- one field
 
@@ -153,61 +157,144 @@ runs-rows base ne nc eras cells ks u v h =
     ∙ ap₂ (λ (i j : ℕ). runsOf i j (take (ne * nc) ks)) le lc
     ∙ runs-take ne nc ks
 
+-- ---- by stretches
+
+runs-same : (m l : ℕ) (ms : List ℕ) → runsIn m (replicate l m ++ ms) ≡ runsIn m ms
+unfolding runsIn
+runs-same m zero ms = refl
+runs-same m (suc l) ms = omega (arith, starts-same m m refl, runs-same m l ms)
+
+-- a stretch counts once
+runs-stretch : (m run l : ℕ) (ms : List ℕ) → 0 < l → runsIn run (replicate l m ++ ms) ≡ startsRow m run + runsIn m ms
+unfolding runsIn
+runs-stretch m run zero ms h = absurd (omega arith)
+runs-stretch m run (suc l) ms h = ap (λ (k : ℕ). startsRow m run + k) (runs-same m l ms)
+
+marks-stretch : (marks : List ℕ) (l k : ℕ) (ks : List ℕ) → fieldMarks marks (replicate l k ++ ks) ≡ replicate l (getD marks k 0) ++ fieldMarks marks ks
+unfolding fieldMarks
+marks-stretch marks zero k ks = refl
+marks-stretch marks (suc l) k ks = ap (λ (q : List ℕ). getD marks k 0 ∷ q) (marks-stretch marks l k ks)
+
+-- the stretches of an era, and their fields
+stretches-count : (marks kinds lens : List ℕ) (n a b run : ℕ) → b ≡ a + n → b ≤ length kinds → ((j : ℕ) → j < b → 0 < getD lens j 0)
+    → runsIn run (slice a b (fieldMarks marks kinds)) ≡ runsIn run (fieldMarks marks (fieldsFrom kinds lens a n))
+unfolding runsIn
+stretches-count marks kinds lens zero a b run q h some =
+    let none : [] ≡ fieldMarks marks [] = unfold fieldMarks in refl in
+    ap (λ (k : ℕ). runsIn run (slice a k (fieldMarks marks kinds))) (let z : b ≡ a = omega arith in z) ∙ ap (runsIn run) (slice-empty a (fieldMarks marks kinds) ∙ none)
+stretches-count marks kinds lens (suc n) a b run q h some =
+    let k = getD kinds a 0 in
+    let rest = fieldsFrom kinds lens (suc a) n in
+    ap (runsIn run) (slice-cons a b (fieldMarks marks kinds) 0 (omega arith) (omega (arith, marks-long marks kinds)))
+    ∙ ap (λ (m : ℕ). startsRow m run + runsIn m (slice (suc a) b (fieldMarks marks kinds))) (mark-is marks kinds a (omega arith))
+    ∙ ap (λ (x : ℕ). startsRow (getD marks k 0) run + x) (stretches-count marks kinds lens n (suc a) b (getD marks k 0) (omega arith) h some)
+    ∙ sym (runs-stretch (getD marks k 0) run (getD lens a 0) (fieldMarks marks rest) (some a (omega arith)))
+    ∙ ap (runsIn run) (sym (marks-stretch marks (getD lens a 0) k rest))
+
+-- one era more
+runs-more : (n nc : ℕ) (ks ls : List ℕ) → length ks ≡ n * nc → length ls ≡ nc → runsOf (suc n) nc (ks ++ ls) ≡ runsOf n nc ks + runsIn 0 ls
+unfolding runsOf
+runs-more zero nc [] ls h k = ap (λ (l : List ℕ). runsIn 0 l + 0) (take-all nc ls (omega arith)) ∙ omega arith
+runs-more zero nc (x ∷ ks) ls h k = absurd (omega arith)
+runs-more (suc n) nc ks ls h k =
+    let long : nc ≤ length ks = omega arith in
+    ap₂ (λ (x y : List ℕ). runsIn 0 x + runsOf (suc n) nc y) (take-append-le nc ks ls long) (drop-append-le nc ks ls long)
+    ∙ ap (λ (x : ℕ). runsIn 0 (take nc ks) + x) (runs-more n nc (drop nc ks) ls (omega (arith, length-drop nc ks)) k)
+    ∙ omega arith
+
+module _ {ne nc : ℕ} {kinds lens ends : List ℕ} (s : Stretched ne nc kinds lens ends) (marks : List ℕ) where
+  eras-stretched : (e : ℕ) → e ≤ ne → runsTo ends (fieldMarks marks kinds) e ≡ runsOf e nc (fieldMarks marks (fieldKinds kinds lens (getD ends e 0)))
+  unfolding runsTo
+  eras-stretched zero h = unfold runsOf in refl
+  eras-stretched (suc e) h =
+      let a = getD ends e 0 in
+      let b = getD ends (suc e) 0 in
+      let up : a ≤ b = ends-rise ends ne (s .rise) e (suc e) (omega arith) h in
+      let top : b ≤ stretchCount ends ne = ends-rise ends ne (s .rise) (suc e) ne h (omega arith) in
+      let before = fieldKinds kinds lens a in
+      let here = fieldsFrom kinds lens a (b - a) in
+      let both : fieldKinds kinds lens b ≡ before ++ here = fields-split kinds lens a b up in
+      let long : length here ≡ nc = omega (arith, s .whole e (omega arith), s .whole (suc e) h, ap length both, length-append before here) in
+      ap₂ (λ (x y : ℕ). x + y) (eras-stretched e (omega arith))
+      (stretches-count marks kinds lens (b - a) a b 0 (omega arith) (omega (arith, s .long-kinds)) (λ j l. s .some j (omega arith)))
+      ∙ sym (runs-more e nc (fieldMarks marks before) (fieldMarks marks here) (marks-long marks before ∙ s .whole e (omega arith)) (marks-long marks here ∙ long))
+      ∙ ap (runsOf (suc e) nc) (sym (marks-append marks before here) ∙ ap (fieldMarks marks) (sym both))
+
+  pub runs-stretches : runsTo ends (fieldMarks marks kinds) ne ≡ runsOf ne nc (fieldMarks marks (fieldKinds kinds lens (stretchCount ends ne)))
+  runs-stretches = eras-stretched ne (omega arith)
+
+  -- the count by stretches is the number of rows that are written
+  pub stretches-rows : (base : ℕ) (eras cells : List ℕ) {l m : List ℕ} {x y : ℕ} → Cuts l eras ne x → Cuts m cells nc y
+      → length (roleRows base eras ne cells nc (fieldMarks marks (fieldKinds kinds lens (stretchCount ends ne)))) ≡ runsTo ends (fieldMarks marks kinds) ne
+  stretches-rows base eras cells u v =
+      let ks = fieldKinds kinds lens (stretchCount ends ne) in
+      runs-rows base ne nc eras cells (fieldMarks marks ks) u v (omega (arith, marks-long marks ks, s .whole ne (omega arith))) ∙ sym runs-stretches
+
 -- ---- one turn of each loop
 
-module _ (nc first : ℕ) (ks : List ℕ) (hm : first + nc ≤ length ks) where
-  runs-turn : (c run : ℕ) → c < nc
-      → runsIn run (marksLeft c nc first ks) ≡ startsRow (getD ks (first + c) 0) run + runsIn (getD ks (first + c) 0) (marksLeft (c + 1) nc first ks)
+-- in an era with stretches from `first` to before `end`: rows that begin before the stretch j, after which the run has mark `run`
+pub record InCount (first end : ℕ) (ms : List ℕ) (j run rows : ℕ) : Type 0 where
+  pub up-to : j ≤ end
+  pub few : first + rows ≤ j
+  pub rest : rows + runsIn run (slice j end ms) ≡ runsIn 0 (slice first end ms)
+
+pub count-start : (first end : ℕ) (ms : List ℕ) → first ≤ end → InCount first end ms first 0 0
+count-start first end ms h = record { up-to = h; few = omega arith; rest = omega arith }
+
+module _ {first end : ℕ} {ms : List ℕ} {j run rows : ℕ} (k : InCount first end ms j run rows) where
+  pub count-turn : end ≤ length ms → j < end → (m r : ℕ) → m ≡ getD ms j 0 → r ≡ startsRow m run → InCount first end ms (j + 1) m (rows + r)
   unfolding runsIn
-  runs-turn c run h = ap (runsIn run) (marks-turn c nc first ks h hm)
+  count-turn hm h m r em er =
+      let turn : runsIn run (slice j end ms) ≡ startsRow m run + runsIn m (slice (j + 1) end ms) =
+      ap (runsIn run) (slice-cons j end ms 0 h hm) ∙ ap₂ (λ (x i : ℕ). startsRow x run + runsIn x (slice i end ms)) (sym em) (sym (add-one j)) in
+      record { up-to = omega arith; few = omega (arith, k .few, starts-most m run); rest = omega (arith, k .rest) }
 
-  pub count-turn : (c run rows m r n : ℕ) → c < nc → rows + runsIn run (marksLeft c nc first ks) ≡ n → m ≡ getD ks (first + c) 0 → r ≡ startsRow m run
-      → rows + r + runsIn m (marksLeft (c + 1) nc first ks) ≡ n
-  count-turn c run rows m r n h q em er =
-      let turn : runsIn run (marksLeft c nc first ks) ≡ startsRow m run + runsIn m (marksLeft (c + 1) nc first ks) =
-      runs-turn c run h ∙ ap (λ (k : ℕ). startsRow k run + runsIn k (marksLeft (c + 1) nc first ks)) (sym em) in
-      omega arith
-
-  pub runs-none : (c run : ℕ) → c ≡ nc → runsIn run (marksLeft c nc first ks) ≡ 0
+  pub count-end : j ≡ end → rows ≡ runsIn 0 (slice first end ms)
   unfolding runsIn
-  runs-none c run e = ap (runsIn run) (marks-none c nc first ks e)
+  count-end q =
+      let none : runsIn run (slice j end ms) ≡ 0 = ap (λ (i : ℕ). runsIn run (slice i end ms)) q ∙ ap (runsIn run) (slice-empty end ms) in
+      omega (arith, k .rest)
 
-  pub era-most : runsIn 0 (take nc (drop first ks)) ≤ nc
-  era-most = omega (arith, runs-most 0 (take nc (drop first ks)), length-take-le nc (drop first ks) (omega (arith, length-drop first ks)))
+pub era-most : (first end : ℕ) (ms : List ℕ) → end ≤ length ms → runsIn 0 (slice first end ms) ≤ end - first
+era-most first end ms h = omega (arith, runs-most 0 (slice first end ms), length-slice first end ms h)
 
-module _ (ne nc : ℕ) (ks : List ℕ) where
-  -- rows that are counted in the eras before e
-  pub record Counting (e first rows : ℕ) : Type 0 where
-    pub up-to : e ≤ ne
-    pub first-is : first ≡ e * nc
-    pub few : rows ≤ first
-    pub rest : rows + runsOf (ne - e) nc (drop first ks) ≡ runsOf ne nc ks
+-- rows that are counted in the eras before e
+pub record Counting (ne : ℕ) (ends ms : List ℕ) (e rows : ℕ) : Type 0 where
+  pub up-to : e ≤ ne
+  pub few : rows ≤ getD ends e 0
+  pub are : rows ≡ runsTo ends ms e
 
-  pub counting-start : Counting 0 0 0
-  counting-start =
-      record { up-to = omega arith; first-is = omega arith; few = omega arith; rest = omega (arith, ap (λ (j : ℕ). runsOf j nc ks) (let z : ne - 0 ≡ ne = omega arith in z)) }
+pub counting-start : (ne : ℕ) (ends ms : List ℕ) → Counting ne ends ms 0 0
+unfolding runsTo
+counting-start ne ends ms = record { up-to = omega arith; few = omega arith; are = refl }
 
-  pub counting-turn : {e first rows : ℕ} → Counting e first rows → e < ne → first + nc ≤ length ks → (r : ℕ) → r ≡ runsIn 0 (take nc (drop first ks))
-      → Counting (e + 1) (first + nc) (rows + r)
-  unfolding runsOf
-  counting-turn {e} {first} {rows} k h hm r q =
-      let n : ne - e ≡ suc (ne - (e + 1)) = omega arith in
-      let turn : runsOf (ne - e) nc (drop first ks) ≡ runsIn 0 (take nc (drop first ks)) + runsOf (ne - (e + 1)) nc (drop (first + nc) ks) =
-      ap (λ (j : ℕ). runsOf j nc (drop first ks)) n
-      ∙ ap (λ (l : List ℕ). runsIn 0 (take nc (drop first ks)) + runsOf (ne - (e + 1)) nc l) (drop-drop nc first ks) in
-      record { up-to = omega arith; first-is = next-first e nc first (k .first-is); few = omega (arith, k .few, era-most nc first ks hm); rest = omega (arith, k .rest) }
+runs-up : (ends ms : List ℕ) (e d : ℕ) → runsTo ends ms e ≤ runsTo ends ms (e + d)
+unfolding runsTo
+runs-up ends ms e zero = rw (add-zero e) (omega arith)
+runs-up ends ms e (suc d) = let q : e + suc d ≡ suc (e + d) = omega arith in rw q (omega (arith, runs-up ends ms e d))
 
-  module _ {e first rows : ℕ} (k : Counting e first rows) where
-    all-most : rows ≤ ne * nc
-    all-most = omega (arith, k .few, k .first-is, mul-le-mul-right nc (k .up-to))
+module _ {ne : ℕ} {ends ms : List ℕ} {e rows : ℕ} (rise : (e : ℕ) → e < ne → getD ends e 0 ≤ getD ends (e + 1) 0) (k : Counting ne ends ms e rows) where
+  pub counting-turn : getD ends ne 0 ≤ length ms → e < ne → (r : ℕ) → r ≡ runsIn 0 (slice (getD ends e 0) (getD ends (e + 1) 0) ms) → Counting ne ends ms (e + 1) (rows + r)
+  unfolding runsTo
+  counting-turn hm h r q =
+      let within : getD ends (e + 1) 0 ≤ length ms = omega (arith, ends-rise ends ne rise (e + 1) ne (omega arith) (omega arith)) in
+      record {
+        up-to = omega arith;
+        few = omega (arith, k .few, rise e h, era-most (getD ends e 0) (getD ends (e + 1) 0) ms within);
+        are = rw (add-one e) (ap₂ (λ (x y : ℕ). x + y) (k .are) (rw (add-one e) at q));
+      }
 
-    -- stopped past the limit
-    pub counting-past : (limit : ℕ) → limit < rows → CountedRows limit ne nc ks rows
-    counting-past limit h = record { least = omega (arith, k .rest); whole = λ l. absurd (omega arith); most = all-most }
+  all-most : rows ≤ getD ends ne 0
+  all-most = omega (arith, k .few, ends-rise ends ne rise e ne (k .up-to) (omega arith))
 
-    pub counting-end : (limit : ℕ) → e ≡ ne → CountedRows limit ne nc ks rows
-    unfolding runsOf
-    counting-end limit q =
-        let none : runsOf (ne - e) nc (drop first ks) ≡ 0 = ap (λ (j : ℕ). runsOf j nc (drop first ks)) (let z : ne - e ≡ 0 = omega arith in z) in
-        let all : rows ≡ runsOf ne nc ks = omega (arith, k .rest) in
-        record { least = omega arith; whole = λ l. all; most = all-most }
+  -- stopped past the limit
+  pub counting-past : (limit : ℕ) → limit < rows → CountedRows limit (runsTo ends ms ne) (getD ends ne 0) rows
+  counting-past limit h =
+      let up : runsTo ends ms e ≤ runsTo ends ms ne =
+      subst (λ (n : ℕ). runsTo ends ms e ≤ runsTo ends ms n) (let q : e + (ne - e) ≡ ne = omega (arith, k .up-to) in q) (runs-up ends ms e (ne - e)) in
+      record { least = omega (arith, k .are); whole = λ l. absurd (omega arith); most = all-most }
+
+  pub counting-end : (limit : ℕ) → e ≡ ne → CountedRows limit (runsTo ends ms ne) (getD ends ne 0) rows
+  counting-end limit q =
+      let all : rows ≡ runsTo ends ms ne = k .are ∙ ap (runsTo ends ms) q in
+      record { least = omega arith; whole = λ l. all; most = all-most }

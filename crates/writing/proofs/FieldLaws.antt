@@ -1,15 +1,15 @@
 -- Fields and marks passed over one at a time: cells of an era, then eras.
 --     gapsLeft, gaps-start, gaps-turn, gaps-none, gaps-count    the gaps between cuts
---     mark-is, marks-long, marks-room, fewer-marks              the marks of fields by kind
+--     mark-is, marks-long, marks-append, fewer-marks            the marks of fields by kind
+--     roleLeft, role-start, role-turn, role-none                the rows of the eras that are left
 --     InRun                                                     a run of cells with one mark: it goes on, ends, or is the last
---     roleLeft, role-turn, era-room, era-written                the rows of the eras that are left
 -- Assumes nothing.
 use Prim.Native.Nat.{ℕ, zero, suc, _+_, _-_, _*_, _≤_, _<_}
 use mathlib.Core.Path.{_≡_, refl, sym, _∙_, ap, ap₂, subst}
-use mathlib.Core.List.{List, [], _∷_, _++_, map, append-nil}
+use mathlib.Core.List.{List, [], _∷_, _++_, map, append-nil, map-append}
 use native.Mathlib.Numerals.{add-one}
 use native.Mathlib.Omega.{arith}
-use native.Mathlib.Nat.{mul-le-mul-right}
+use native.Mathlib.Nat.{add-zero, zero-mul, mul-le-mul-right}
 use lib.ListN.{length, getD, take, drop, length-drop, length-map}
 use lib.Seq.{sets, getD-drop, length-take-le, take-take, drop-drop, slice-empty, slice-cons}
 use Rattle.minutes.specs.Minutes.{Window}
@@ -88,8 +88,9 @@ pub marks-long : (marks kinds : List ℕ) → length (fieldMarks marks kinds) �
 unfolding fieldMarks
 marks-long marks kinds = length-map kinds (byKind marks)
 
-pub marks-room : (first nc : ℕ) (kinds marks : List ℕ) → HaveMarks (first + nc) kinds marks → first + nc ≤ length (fieldMarks marks kinds)
-marks-room first nc kinds marks h = omega (arith, h .long, marks-long marks kinds)
+pub marks-append : (marks ks ls : List ℕ) → fieldMarks marks (ks ++ ls) ≡ fieldMarks marks ks ++ fieldMarks marks ls
+unfolding fieldMarks
+marks-append marks ks ls = map-append (byKind marks) ks ls
 
 pub fewer-marks : (k n : ℕ) (kinds marks : List ℕ) → k ≤ n → HaveMarks n kinds marks → HaveMarks k kinds marks
 fewer-marks k n kinds marks l h = record { long = omega (arith, h .long); below = λ i b. h .below i (omega arith) }
@@ -105,9 +106,6 @@ pub marks-turn : (c nc first : ℕ) (ks : List ℕ) → c < nc → first + nc �
 marks-turn c nc first ks h hm =
     slice-cons c nc (drop first ks) 0 h (omega (arith, length-drop first ks))
     ∙ ap₂ (λ (m k : ℕ). m ∷ drop k (take nc (drop first ks))) (getD-drop first ks c 0) (sym (add-one c))
-
-pub marks-none : (c nc first : ℕ) (ks : List ℕ) → c ≡ nc → marksLeft c nc first ks ≡ []
-marks-none c nc first ks e = ap (λ (k : ℕ). marksLeft k nc first ks) e ∙ slice-empty nc (drop first ks)
 
 module _ (base b e nc : ℕ) (cells ks : List ℕ) (first : ℕ) where
   -- unjoined, from the cell c on
@@ -163,45 +161,41 @@ take-drop-take k (suc i) zero l h = absurd (omega arith)
 take-drop-take k (suc i) (suc n) [] h = refl
 take-drop-take k (suc i) (suc n) (x ∷ l) h = take-drop-take k i n l (omega arith)
 
--- the rows of a role from the era e on, whose first mark is at `first`
-abbrev pub roleLeft : ℕ → ℕ → ℕ → ℕ → ℕ → ℕ → List ℕ → List ℕ → List ℕ → List Row
-roleLeft base e ne nc first n eras cells ks = joinRows (rowsMarked base (fieldsOf (gapsLeft e ne eras) (gaps (take (nc + 1) cells))) (drop first (take n ks)))
+-- the rows of a role from the era e on
+abbrev pub roleLeft : ℕ → ℕ → ℕ → ℕ → List ℕ → List ℕ → List ℕ → List Row
+roleLeft base e ne nc eras cells ks = joinRows (rowsMarked base (fieldsOf (gapsLeft e ne eras) (gaps (take (nc + 1) cells))) (drop (e * nc) (take (ne * nc) ks)))
 
-pub role-start : (base ne nc : ℕ) (eras cells ks : List ℕ) → ne < length eras
-    → roleLeft base 0 ne nc 0 (ne * nc) eras cells ks ≡ roleRows base eras ne cells nc ks
+pub role-start : (base ne nc : ℕ) (eras cells ks : List ℕ) → ne < length eras → roleLeft base 0 ne nc eras cells ks ≡ roleRows base eras ne cells nc ks
 unfolding roleRows
 role-start base ne nc eras cells ks h =
-    ap (λ (g : List Gap). joinRows (rowsMarked base (fieldsOf g (gaps (take (nc + 1) cells))) (take (ne * nc) ks))) (sym (gaps-start ne eras h))
+    ap₂ (λ (g : List Gap) (i : ℕ). joinRows (rowsMarked base (fieldsOf g (gaps (take (nc + 1) cells))) (drop i (take (ne * nc) ks)))) (sym (gaps-start ne eras h))
+    (zero-mul nc)
 
-module _ (base e ne nc first n top : ℕ) (eras cells ks : List ℕ) (k : Cuts (take (ne + 1) eras) eras ne top) where
-  pub role-turn : e < ne → nc < length cells → first + nc ≤ n
-      → roleLeft base e ne nc first n eras cells ks
-      ≡ eraRows base (getD eras e 0) (getD eras (e + 1) 0) cells nc ks first ++ roleLeft base (e + 1) ne nc (first + nc) n eras cells ks
+module _ (base e ne nc top : ℕ) (eras cells ks : List ℕ) (k : Cuts (take (ne + 1) eras) eras ne top) where
+  pub role-turn : e < ne → nc < length cells
+      → roleLeft base e ne nc eras cells ks
+      ≡ eraRows base (getD eras e 0) (getD eras (e + 1) 0) cells nc ks (e * nc) ++ roleLeft base (e + 1) ne nc eras cells ks
   unfolding eraRows
-  role-turn h hc hf =
+  role-turn h hc =
       let g = gap (getD eras e 0) (getD eras (e + 1) 0) in
       let cs = gaps (take (nc + 1) cells) in
       let here = map (fieldOf g) cs in
       let later = fieldsOf (gapsLeft (e + 1) ne eras) cs in
-      let ms = drop first (take n ks) in
+      let ms = drop (e * nc) (take (ne * nc) ks) in
       let lc : length cs ≡ nc = gaps-count nc cells hc in
+      let next : e * nc + nc ≡ (e + 1) * nc = omega arith in
       ap (λ (x : List Gap). joinRows (rowsMarked base (fieldsOf x cs) ms)) (gaps-turn e ne eras h (k .long))
       ∙ era-by-era base g (gapsLeft (e + 1) ne eras) cs ms (rising-later e ne eras h (k .long) (k .rise))
       ∙ ap₂ (λ (x y : List ℕ). joinRows (rowsMarked base here x) ++ joinRows (rowsMarked base later y))
-      (ap (λ (j : ℕ). take j ms) lc ∙ take-drop-take nc first n ks hf) (ap (λ (j : ℕ). drop j ms) lc ∙ drop-drop nc first (take n ks))
+      (ap (λ (j : ℕ). take j ms) lc ∙ take-drop-take nc (e * nc) (ne * nc) ks (omega (arith, mul-le-mul-right nc h)))
+      (ap (λ (j : ℕ). drop j ms) lc ∙ drop-drop nc (e * nc) (take (ne * nc) ks) ∙ ap (λ (j : ℕ). drop j (take (ne * nc) ks)) next)
 
-  pub role-none : e ≡ ne → roleLeft base e ne nc first n eras cells ks ≡ []
+  pub role-none : e ≡ ne → roleLeft base e ne nc eras cells ks ≡ []
   unfolding fieldsOf rowsMarked joinRows
   role-none q =
-      ap (λ (g : List Gap). joinRows (rowsMarked base (fieldsOf g (gaps (take (nc + 1) cells))) (drop first (take n ks)))) (gaps-none e ne eras (k .long) q)
+      ap (λ (g : List Gap). joinRows (rowsMarked base (fieldsOf g (gaps (take (nc + 1) cells))) (drop (e * nc) (take (ne * nc) ks)))) (gaps-none e ne eras (k .long) q)
 
-pub room : (e ne nc first : ℕ) → e < ne → first ≡ e * nc → first + nc ≤ ne * nc
-room e ne nc first h q = omega (arith, mul-le-mul-right nc h)
-
-pub next-first : (e nc first : ℕ) → first ≡ e * nc → first + nc ≡ (e + 1) * nc
-next-first e nc first q = omega arith
-
--- ---- one turn of each loop
+-- ---- a run of cells
 
 -- in an era, at the cell c: a run from the phase `low` on with mark m, of which no row is written yet
 pub record InRun (base b e nc : ℕ) (cells ks : List ℕ) (first : ℕ) (whole : List Row) (at : ℕ) (out₀ : List ℕ) (c low m p : ℕ) (out : List ℕ) : Type 0 where
@@ -209,76 +203,67 @@ pub record InRun (base b e nc : ℕ) (cells ks : List ℕ) (first : ℕ) (whole 
   pub from : low ≤ getD cells c 0
   pub left : Writing rowBytes 16 whole at out₀ (eraLeft base b e nc cells ks first low m c) p out
 
-module _ (base b e nc : ℕ) (cells ks : List ℕ) (first : ℕ) (k : Cuts (take (nc + 1) cells) cells nc 65535) where
-  pub run-start : (at : ℕ) (out : List ℕ) → InRun base b e nc cells ks first (eraRows base b e cells nc ks first) at out 0 (getD cells 0 0) 0 at out
-  run-start at out =
+pub run-start : (base b e nc : ℕ) (cells ks : List ℕ) (first : ℕ) → Cuts (take (nc + 1) cells) cells nc 65535 → (at : ℕ) (out : List ℕ)
+    → InRun base b e nc cells ks first (eraRows base b e cells nc ks first) at out 0 (getD cells 0 0) 0 at out
+run-start base b e nc cells ks first k at out =
+    record {
+      up-to = omega arith;
+      from = omega arith;
+      left = writing-start (eraRows base b e cells nc ks first) at out _ at (era-start base b e nc cells ks first k (getD cells 0 0)) refl;
+    }
+
+module _ {base b e nc : ℕ} {cells ks : List ℕ} {first : ℕ} {whole : List Row} {at : ℕ} {out₀ : List ℕ} (k : Cuts (take (nc + 1) cells) cells nc 65535)
+    (hm : first + nc ≤ length ks) where
+  -- the next cell has the mark of the run, and then the next l cells
+  run-on-one : {c low m p : ℕ} {out : List ℕ} → InRun base b e nc cells ks first whole at out₀ c low m p out → c < nc → getD ks (first + c) 0 ≡ m
+      → InRun base b e nc cells ks first whole at out₀ (c + 1) low m p out
+  run-on-one {c} {low} {m} {p} {out} w h q =
       record {
         up-to = omega arith;
-        from = omega arith;
-        left = writing-start (eraRows base b e cells nc ks first) at out _ at (era-start base b e nc cells ks first k (getD cells 0 0)) refl;
+        from = omega (arith, w .from, k .rise c h);
+        left = subst (λ (l : List Row). Writing rowBytes 16 whole at out₀ l p out) (era-on base b e nc cells ks first k low m c h hm (w .from) q) (w .left);
       }
 
-  module _ {whole : List Row} {at : ℕ} {out₀ : List ℕ} {c low m p : ℕ} {out : List ℕ} (w : InRun base b e nc cells ks first whole at out₀ c low m p out) where
-    module _ (h : c < nc) (hm : first + nc ≤ length ks) where
-      -- the next cell has the mark of the run
-      pub run-kept : getD ks (first + c) 0 ≡ m → (low′ m′ p′ : ℕ) (out′ : List ℕ) → out′ ≡ out → p′ ≡ p → m′ ≡ m → low′ ≡ low
-          → InRun base b e nc cells ks first whole at out₀ (c + 1) low′ m′ p′ out′
-      run-kept q low′ m′ p′ out′ eo ep em el =
-          rw (eo, ep, em, el)
-          (record {
-            up-to = omega arith;
-            from = omega (arith, w .from, k .rise c h);
-            left = subst (λ (l : List Row). Writing rowBytes 16 whole at out₀ l p out) (era-on base b e nc cells ks first k low m c h hm (w .from) q) (w .left);
-          })
+  pub run-kept : {c low m p : ℕ} {out : List ℕ} → InRun base b e nc cells ks first whole at out₀ c low m p out → (l : ℕ) → c + l ≤ nc
+      → ((i : ℕ) → i < l → getD ks (first + (c + i)) 0 ≡ m) → InRun base b e nc cells ks first whole at out₀ (c + l) low m p out
+  run-kept {c} w zero h q = rw (add-zero c) w
+  run-kept {c} w (suc l) h q =
+      let n : c + suc l ≡ c + l + 1 = omega arith in
+      rw n (run-on-one (run-kept w l (omega arith) (λ i z. q i (omega arith))) (omega arith) (q l (omega arith)))
 
-      -- it has another: the row of the run is written
-      module _ (q : getD ks (first + c) 0 ≡ m → ⊥) where
-        pub run-room : at + 16 * length whole ≤ length out₀ → p + 16 * length (marked base (cellOf b e low (getD cells c 0)) m []) ≤ length out
-        run-room l =
-            writing-room (w .left) (marked base (cellOf b e low (getD cells c 0)) m [])
-            (eraLeft base b e nc cells ks first (getD cells c 0) (getD ks (first + c) 0) (c + 1)) (era-ends base b e nc cells ks first k low m c h hm (w .from) q) l
+  -- the next cell has another: the row of the run is written
+  module _ {c low m p : ℕ} {out : List ℕ} (w : InRun base b e nc cells ks first whole at out₀ c low m p out) (h : c < nc) (q : getD ks (first + c) 0 ≡ m → ⊥) where
+    pub run-room : at + 16 * length whole ≤ length out₀ → p + 16 * length (marked base (cellOf b e low (getD cells c 0)) m []) ≤ length out
+    run-room l =
+        writing-room (w .left) (marked base (cellOf b e low (getD cells c 0)) m [])
+        (eraLeft base b e nc cells ks first (getD cells c 0) (getD ks (first + c) 0) (c + 1)) (era-ends base b e nc cells ks first k low m c h hm (w .from) q) l
 
-        pub run-written : (low′ m′ p′ : ℕ) (out′ : List ℕ) → out′ ≡ sets out p (joined rowBytes (marked base (cellOf b e low (getD cells c 0)) m []))
-            → p′ ≡ p + 16 * length (marked base (cellOf b e low (getD cells c 0)) m []) → m′ ≡ getD ks (first + c) 0 → low′ ≡ getD cells c 0
-            → InRun base b e nc cells ks first whole at out₀ (c + 1) low′ m′ p′ out′
-        run-written low′ m′ p′ out′ eo ep em el =
-            rw (em, el)
-            (record {
-              up-to = omega arith;
-              from = omega (arith, k .rise c h);
-              left =
-                  writing-turn (w .left) row-long (marked base (cellOf b e low (getD cells c 0)) m [])
-                  (eraLeft base b e nc cells ks first (getD cells c 0) (getD ks (first + c) 0) (c + 1)) p′ out′
-                  (era-ends base b e nc cells ks first k low m c h hm (w .from) q) eo ep;
-            })
+    pub run-written : (p′ : ℕ) (out′ : List ℕ) → out′ ≡ sets out p (joined rowBytes (marked base (cellOf b e low (getD cells c 0)) m []))
+        → p′ ≡ p + 16 * length (marked base (cellOf b e low (getD cells c 0)) m [])
+        → InRun base b e nc cells ks first whole at out₀ (c + 1) (getD cells c 0) (getD ks (first + c) 0) p′ out′
+    run-written p′ out′ eo ep =
+        record {
+          up-to = omega arith;
+          from = omega (arith, k .rise c h);
+          left =
+              writing-turn (w .left) row-long (marked base (cellOf b e low (getD cells c 0)) m [])
+              (eraLeft base b e nc cells ks first (getD cells c 0) (getD ks (first + c) 0) (c + 1)) p′ out′
+              (era-ends base b e nc cells ks first k low m c h hm (w .from) q) eo ep;
+        }
 
-    -- no cell is left
-    module _ (h : c ≡ nc) where
-      pub last-room : at + 16 * length whole ≤ length out₀ → p + 16 * length (marked base (cellOf b e low (getD cells nc 0)) m []) ≤ length out
-      last-room l = writing-room (w .left) (marked base (cellOf b e low (getD cells nc 0)) m []) [] (era-end base b e nc cells ks first k low m c h) l
+-- no cell is left
+module _ {base b e nc : ℕ} {cells ks : List ℕ} {first : ℕ} {whole : List Row} {at : ℕ} {out₀ : List ℕ} {c low m p : ℕ} {out : List ℕ}
+    (k : Cuts (take (nc + 1) cells) cells nc 65535) (w : InRun base b e nc cells ks first whole at out₀ c low m p out) (h : c ≡ nc) where
+  pub last-room : at + 16 * length whole ≤ length out₀ → p + 16 * length (marked base (cellOf b e low (getD cells nc 0)) m []) ≤ length out
+  last-room l = writing-room (w .left) (marked base (cellOf b e low (getD cells nc 0)) m []) [] (era-end base b e nc cells ks first k low m c h) l
 
-      pub last-from : low ≤ getD cells nc 0
-      last-from = subst (λ (j : ℕ). low ≤ getD cells j 0) h (w .from)
+  pub last-from : low ≤ getD cells nc 0
+  last-from = subst (λ (j : ℕ). low ≤ getD cells j 0) h (w .from)
 
-      pub last-written : (p′ : ℕ) (out′ : List ℕ) → out′ ≡ sets out p (joined rowBytes (marked base (cellOf b e low (getD cells nc 0)) m []))
-          → p′ ≡ p + 16 * length (marked base (cellOf b e low (getD cells nc 0)) m [])
-          → (out′ ≡ sets out₀ at (joined rowBytes whole)) × (p′ ≡ at + 16 * length whole)
-      last-written p′ out′ eo ep =
-          writing-end
-          (writing-turn (w .left) row-long (marked base (cellOf b e low (getD cells nc 0)) m []) [] p′ out′ (era-end base b e nc cells ks first k low m c h) eo ep)
-          refl
-
-module _ {whole : List Row} {at : ℕ} {out₀ : List ℕ} {p : ℕ} {out : List ℕ} (base e ne nc first n top : ℕ) (eras cells ks : List ℕ)
-    (k : Cuts (take (ne + 1) eras) eras ne top) (h : e < ne) (hc : nc < length cells) (hf : first + nc ≤ n)
-    (w : Writing rowBytes 16 whole at out₀ (roleLeft base e ne nc first n eras cells ks) p out) where
-  pub era-room : at + 16 * length whole ≤ length out₀ → p + 16 * length (eraRows base (getD eras e 0) (getD eras (e + 1) 0) cells nc ks first) ≤ length out
-  era-room l =
-      writing-room w (eraRows base (getD eras e 0) (getD eras (e + 1) 0) cells nc ks first) (roleLeft base (e + 1) ne nc (first + nc) n eras cells ks)
-      (role-turn base e ne nc first n top eras cells ks k h hc hf) l
-
-  pub era-written : (p′ : ℕ) (out′ : List ℕ) → out′ ≡ sets out p (joined rowBytes (eraRows base (getD eras e 0) (getD eras (e + 1) 0) cells nc ks first))
-      → p′ ≡ p + 16 * length (eraRows base (getD eras e 0) (getD eras (e + 1) 0) cells nc ks first)
-      → Writing rowBytes 16 whole at out₀ (roleLeft base (e + 1) ne nc (first + nc) n eras cells ks) p′ out′
-  era-written p′ out′ q r =
-      writing-turn w row-long (eraRows base (getD eras e 0) (getD eras (e + 1) 0) cells nc ks first) (roleLeft base (e + 1) ne nc (first + nc) n eras cells ks) p′ out′
-      (role-turn base e ne nc first n top eras cells ks k h hc hf) q r
+  pub last-written : (p′ : ℕ) (out′ : List ℕ) → out′ ≡ sets out p (joined rowBytes (marked base (cellOf b e low (getD cells nc 0)) m []))
+      → p′ ≡ p + 16 * length (marked base (cellOf b e low (getD cells nc 0)) m [])
+      → (out′ ≡ sets out₀ at (joined rowBytes whole)) × (p′ ≡ at + 16 * length whole)
+  last-written p′ out′ eo ep =
+      writing-end
+      (writing-turn (w .left) row-long (marked base (cellOf b e low (getD cells nc 0)) m []) [] p′ out′ (era-end base b e nc cells ks first k low m c h) eo ep)
+      refl

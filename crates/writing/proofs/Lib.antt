@@ -1,3 +1,4 @@
 pub mod WriteLaws
 pub mod FieldLaws
+pub mod EraLaws
 pub mod CountLaws

@@ -1,29 +1,24 @@
 -- What is left of the role's rows, written from here, is the whole.
 use native.Mathlib.Omega.{arith}
-use mathlib.Core.Path.{_≡_, refl}
-use Prim.Native.Nat.{_*_, _-_, _≤_}
-use Rattle.minutes.specs.Minutes.{E}
-use Rattle.table.specs.TableBytes.{rowBytes}
-use Rattle.writing.specs.Parts.{fieldMarks, roleRows}
-use Rattle.writing.proofs.FieldLaws.{fewer-marks, roleLeft, role-start, role-none, era-room, era-written, room, next-first}
-use Rattle.writing.proofs.WriteLaws.{Writing, writing-start, writing-end}
+use Prim.Native.Nat.{_-_}
+use Rattle.writing.proofs.EraLaws.{InRole, role-begun, role-written, era-marks, era-stretched, era-room, era-written}
 use Rattle.writing.proofs.write_rows.Statement.{statement}
 use Rattle.writing.proofs.write_rows.Tie as tie
 
 abbrev Inv-loop : tie.InvT-loop
-Inv-loop out₀ at base eras ne cells nc kinds marks p₀ first₀ e₀ out p first e = (e ≤ ne) × (first ≡ e * nc) × Writing rowBytes 16 (roleRows base eras ne cells nc (fieldMarks marks kinds)) at out₀ (roleLeft base e ne nc first (ne * nc) eras cells (fieldMarks marks kinds)) p out
+Inv-loop out₀ at base eras ne cells nc kinds lens ends marks p₀ e₀ out p e = InRole base ne nc eras cells kinds lens ends marks at out₀ e p out
 
 abbrev μ-loop : tie.MeasureT-loop
-μ-loop out₀ at base eras ne cells nc kinds marks p₀ first₀ e₀ out p first e = ne - e
+μ-loop out₀ at base eras ne cells nc kinds lens ends marks p₀ e₀ out p e = ne - e
 
 loop-holds : tie.Need-loop-holds Inv-loop μ-loop
-loop-holds c = let a = c .before .before .before .before .before .args in (omega arith, omega arith, writing-start _ (a .at) (a .out .now) _ (a .at) (role-start (a .base) (a .ne) (a .nc) (a .eras .now) (a .cells .now) (fieldMarks (a .marks .now) (a .kinds .now)) (c .before .before .before .before .before .pre .1 .1 .long)) refl)
+loop-holds c = let a = c .before .before .before .before .before .before .before .args in role-begun (a .base) (a .ne) (a .nc) (a .eras .now) (a .cells .now) (a .kinds .now) (a .lens .now) (a .ends .now) (a .marks .now) (c .before .before .before .before .before .before .before .pre .1 .2 .long) (a .at) (a .out .now)
 
 mul-write-era : tie.Need-mul-write-era Inv-loop μ-loop
 mul-write-era c = omega arith
 
 shared-slice-read-write-era : tie.Need-shared-slice-read-write-era Inv-loop μ-loop
-shared-slice-read-write-era c = omega (arith, c .before .before .before .before .before .before .before .before .before .pre .1 .1 .long)
+shared-slice-read-write-era c = omega (arith, c .before .before .before .before .before .before .before .before .before .before .before .pre .1 .2 .long)
 
 add-write-era : tie.Need-add-write-era Inv-loop μ-loop
 add-write-era c = omega arith
@@ -32,17 +27,28 @@ mul-write-era-2 : tie.Need-mul-write-era-2 Inv-loop μ-loop
 mul-write-era-2 c = omega arith
 
 shared-slice-read-write-era-2 : tie.Need-shared-slice-read-write-era-2 Inv-loop μ-loop
-shared-slice-read-write-era-2 c = omega (arith, c .before .before .before .before .before .before .before .before .before .before .pre .1 .1 .long)
+shared-slice-read-write-era-2 c = omega (arith, c .before .before .before .before .before .before .before .before .before .before .before .before .pre .1 .2 .long)
+
+mul-write-era-3 : tie.Need-mul-write-era-3 Inv-loop μ-loop
+mul-write-era-3 c = omega arith
+
+shared-slice-read-write-era-3 : tie.Need-shared-slice-read-write-era-3 Inv-loop μ-loop
+shared-slice-read-write-era-3 c = omega (arith, c .before .before .before .before .before .before .before .before .before .before .before .before .before .pre .1 .1 .long-ends)
+
+add-write-era-2 : tie.Need-add-write-era-2 Inv-loop μ-loop
+add-write-era-2 c = omega arith
+
+mul-write-era-4 : tie.Need-mul-write-era-4 Inv-loop μ-loop
+mul-write-era-4 c = omega arith
+
+shared-slice-read-write-era-4 : tie.Need-shared-slice-read-write-era-4 Inv-loop μ-loop
+shared-slice-read-write-era-4 c = omega (arith, c .before .before .before .before .before .before .before .before .before .before .before .before .before .before .pre .1 .1 .long-ends)
 
 write-era-requires : tie.Need-write-era-requires Inv-loop μ-loop
-write-era-requires c κs = let a = c .before .before .before .before .before .before .before .before .before .before .args in let p = c .before .before .before .before .before .before .before .before .before .before .pre in let l = c .before .before .before .before .loop in let h = c .before .before .before .loop-test .taken in
-    let f = room (l .e) (a .ne) (a .nc) (l .first) h (l .inv .1) in (
-      (era-room (a .base) (l .e) (a .ne) (a .nc) (l .first) (a .ne * a .nc) E (a .eras .now) (a .cells .now) (fieldMarks (a .marks .now) (a .kinds .now)) (p .1 .1) h (p .1 .2 .long) f (l .inv .2) (p .0 .0), p .0 .1),
-      (fewer-marks _ _ _ _ f (p .1 .0), p .1 .2),
-    )
-
-add-first : tie.Need-add-first Inv-loop μ-loop
-add-first c = let a = c .before .before .before .before .before .before .before .before .before .before .before .before .before .args in let l = c .before .before .before .before .before .before .before .loop in omega (arith, room (l .e) (a .ne) (a .nc) (l .first) (c .before .before .before .before .before .before .loop-test .taken) (l .inv .1), c .before .before .before .before .before .before .before .before .before .before .before .before .before .pre .1 .0 .long)
+write-era-requires c κs = let p = c .before .before .before .before .before .before .before .before .before .before .before .before .before .before .pre in let w = c .before .before .before .before .before .before .loop .inv in let h = c .before .before .before .before .before .loop-test .taken in (
+  (era-room (p .1 .2) w (p .1 .1) h (p .1 .3 .long) (p .0 .0), p .0 .1),
+  (era-marks (p .1 .2) w (p .1 .1) h (p .1 .0), era-stretched (p .1 .2) w (p .1 .1) h, p .1 .3),
+)
 
 add-e : tie.Need-add-e Inv-loop μ-loop
 add-e c = omega arith
@@ -51,19 +57,13 @@ loop-less : tie.Need-loop-less Inv-loop μ-loop
 loop-less c = omega arith
 
 loop-again : tie.Need-loop-again Inv-loop μ-loop
-loop-again c = let a = c .before .before .before .before .before .before .before .before .before .before .before .before .before .args in let p = c .before .before .before .before .before .before .before .before .before .before .before .before .before .pre in let l = c .before .before .before .before .before .before .before .loop in let h = c .before .before .before .before .before .before .loop-test .taken in
-    let f = room (l .e) (a .ne) (a .nc) (l .first) h (l .inv .1) in (
-      omega arith,
-      next-first (l .e) (a .nc) (l .first) (l .inv .1),
-      era-written (a .base) (l .e) (a .ne) (a .nc) (l .first) (a .ne * a .nc) E (a .eras .now) (a .cells .now) (fieldMarks (a .marks .now) (a .kinds .now)) (p .1 .1) h (p .1 .2 .long) f (l .inv .2) _ _ (c .before .before .write-era .ensures .0) (c .before .before .write-era .ensures .1),
-    )
+loop-again c = let p = c .before .before .before .before .before .before .before .before .before .before .before .before .before .before .before .before .before .pre in era-written (p .1 .2) (c .before .before .before .before .before .before .before .before .before .loop .inv) (p .1 .1) (c .before .before .before .before .before .before .before .before .loop-test .taken) (p .1 .3 .long) _ _ (c .before .before .write-era .ensures .0) (c .before .before .write-era .ensures .1)
 
 same-length : tie.Need-same-length Inv-loop μ-loop
-same-length c = c .before .loop .inv .2 .long
+same-length c = c .before .loop .inv .left .long
 
 returns : tie.Need-returns Inv-loop μ-loop
-returns c = let a = c .before .before .before .before .before .before .before .args in let l = c .before .loop in
-    writing-end (l .inv .2) (role-none (a .base) (l .e) (a .ne) (a .nc) (l .first) (a .ne * a .nc) E (a .eras .now) (a .cells .now) (fieldMarks (a .marks .now) (a .kinds .now)) (c .before .before .before .before .before .before .before .pre .1 .1) (omega arith))
+returns c = let w = c .before .loop .inv in role-written (c .before .before .before .before .before .before .before .before .before .pre .1 .2) w (omega (arith, w .up-to))
 
 pub write-rows-spec : {M : Type 1} → statement M
 write-rows-spec =
@@ -77,8 +77,12 @@ write-rows-spec =
     add-write-era
     mul-write-era-2
     shared-slice-read-write-era-2
+    mul-write-era-3
+    shared-slice-read-write-era-3
+    add-write-era-2
+    mul-write-era-4
+    shared-slice-read-write-era-4
     write-era-requires
-    add-first
     add-e
     loop-less
     loop-again
