@@ -1,19 +1,46 @@
 -- Stretches, and the fields that they have.
+--     kinds-none, kinds-more                    the kinds of the fields of no stretch, and with one more
+--     kinds-same, kinds-stored                  of stretches that are as they were; with one that is stored after them
 --     fields-more, fields-mono, fields-least    how many fields the first stretches have
 --     fieldsFrom, fields-split                  the fields of the stretches from a place on
 --     field-in, stretch-each                    the kind of a field is that of its stretch; what all fields meet, each stretch does
 --     ends-rise                                 the places where eras begin, in order
 -- Assumes nothing.
 use Prim.Native.Nat.{ℕ, zero, suc, _+_, _-_, _≤_, _<_}
-use mathlib.Core.Path.{_≡_, sym, ap, _∙_, subst}
+use mathlib.Core.Path.{_≡_, refl, sym, ap, ap₂, _∙_, subst}
 use mathlib.Core.List.{List, [], _++_, append-assoc, append-nil}
 use native.Mathlib.Nat.{add-zero}
+use native.Mathlib.Numerals.{add-one}
 use native.Mathlib.Omega.{arith}
-use lib.ListN.{length, getD, replicate, length-append, length-replicate, getD-replicate, List·getD-append}
-use lib.Seq.{getD-append-add}
+use lib.ListN.{length, getD, set, replicate, length-append, length-replicate, getD-replicate, List·getD-append}
+use lib.Seq.{getD-append-add, getD-set-same, getD-set-other}
 use Rattle.ground.specs.Sequence.{All}
 use Rattle.ground.proofs.ListLaws.{all-in, at-in}
 use Rattle.grid.specs.Stretches.{fieldKinds}
+
+pub kinds-none : (kinds lens : List ℕ) → fieldKinds kinds lens 0 ≡ []
+unfolding fieldKinds
+kinds-none kinds lens = refl
+
+pub kinds-more : (kinds lens : List ℕ) (n : ℕ) → fieldKinds kinds lens (n + 1) ≡ fieldKinds kinds lens n ++ replicate (getD lens n 0) (getD kinds n 0)
+unfolding fieldKinds
+kinds-more kinds lens n = ap (fieldKinds kinds lens) (add-one n)
+
+module _ (kinds lens kinds′ lens′ : List ℕ) where
+  pub kinds-same : (n : ℕ) → ((j : ℕ) → j < n → getD kinds′ j 0 ≡ getD kinds j 0) → ((j : ℕ) → j < n → getD lens′ j 0 ≡ getD lens j 0)
+      → fieldKinds kinds′ lens′ n ≡ fieldKinds kinds lens n
+  unfolding fieldKinds
+  kinds-same zero k l = refl
+  kinds-same (suc n) k l =
+      ap₂ _++_ (kinds-same n (λ j h. k j (omega arith)) (λ j h. l j (omega arith))) (ap₂ (λ (a b : ℕ). replicate a b) (l n (omega arith)) (k n (omega arith)))
+
+pub kinds-stored : (kinds lens : List ℕ) (n k l : ℕ) → n < length kinds → n < length lens
+    → fieldKinds (set kinds n k) (set lens n l) (n + 1) ≡ fieldKinds kinds lens n ++ replicate l k
+kinds-stored kinds lens n k l hk hl =
+    kinds-more (set kinds n k) (set lens n l) n
+    ∙ ap₂ _++_
+    (kinds-same kinds lens (set kinds n k) (set lens n l) n (λ j h. getD-set-other kinds n j k 0 (λ e. omega arith)) (λ j h. getD-set-other lens n j l 0 (λ e. omega arith)))
+    (ap₂ (λ (a b : ℕ). replicate a b) (getD-set-same lens n l 0 hl) (getD-set-same kinds n k 0 hk))
 
 module _ (kinds lens : List ℕ) where
   -- the kinds of the fields of n stretches from the place a on

@@ -1,15 +1,16 @@
 -- The distinct masks as pairs of sets whose second set is empty: the kind of one more mask.
---     known-none, known-next        no minute is kind 0; a mask that came to its kind is known
---     found-same, found-none, found-entered    the mask before again, no minute, and a mask that the index entered
+--     masks-stretch, kinds-stretch  the masks and the kinds with one mask some times over
+--     found-none, found-entered     no minute, and a mask that the index entered
 --     held-none, held-entered       the index of no mask, and after one that was entered
 -- Assumes nothing.
-use Prim.Native.Nat.{ℕ, suc, _+_, _^_, _≤_, _<_}
+use Prim.Native.Nat.{ℕ, zero, suc, _+_, _^_, _≤_, _<_}
 use mathlib.Core.Path.{_≡_, refl, sym, _∙_, ap, ap₂, subst}
 use mathlib.Core.Bool.{Bool, true, false, _&&_, _||_, not}
 use mathlib.Core.List.{List, [], _∷_, _++_, map, map-append}
 use native.Mathlib.Omega.{arith}
 use native.Mathlib.Numerals.{add-one}
 use lib.Dec.{eqb, ltb}
+use lib.ListN.{replicate}
 use lib.Pow.{pow-pos}
 use borrow.Author.Tests.{eq-eqb, ne-eqb, eqb-false, ltb-true, ltb-false}
 use Rattle.ground.specs.Choice.{pick}
@@ -24,11 +25,11 @@ use Rattle.table.specs.Table.{Entry}
 use Rattle.table.specs.Inside.{entryMade}
 use Rattle.derivation.specs.Distinct.{addNew, placeOf}
 use Rattle.derivation.specs.Rewriting.{same}
-use Rattle.derivation.specs.Kinds.{addMask, kindOf}
+use Rattle.derivation.specs.Kinds.{addMask, masksFrom, kindOf, kindsFrom}
 use Rattle.derivation.proofs.TableDistinct.{add-there, add-found, place-add, place-below}
 use Rattle.index.specs.Entries.{entryAt, entriesTo, after, Entered}
 use Rattle.trees.specs.Tree.{usersAt, permissionsAt, Within, Indexed}
-use Rattle.kinds.specs.Kinds.{keys, Held, Known, Found}
+use Rattle.kinds.specs.Kinds.{keys, Held, Found}
 use Rattle.kinds.specs.declared.Kind.{Kind}
 
 -- ---- a mask as an entry
@@ -92,10 +93,7 @@ module _ (d : ℕ) (pairs ds : List ℕ) (e : entriesTo 0 d pairs ≡ map maskEn
       nothing [] = tt
       nothing (m ∷ l) = (refl, nothing l)
 
--- ---- what is known
-
-pub known-none : (ds : List ℕ) → Known ds 0 0
-known-none ds = record { kind-is = refl; there = refl }
+-- ---- one mask some times over
 
 module _ (ds : List ℕ) (m : ℕ) where
   same-self : (x : ℕ) → eqb x x ≡ true
@@ -115,9 +113,27 @@ module _ (ds : List ℕ) (m : ℕ) where
       go true = refl
       go false = ap suc (place-add eqb same-self ds m)
 
-pub known-next : {m d : ℕ} {pairs pairs′ : List ℕ} {k : Kind} → Found m d pairs pairs′ k → Known (keys (k .masks) pairs′) m (k .kind)
-known-next {m} {d} {pairs} f =
-    rw (f .masks-then) (record { kind-is = f .kind-is ∙ sym (kind-again (keys d pairs) m); there = again (keys d pairs) m })
+  module _ (rest : List ℕ) where
+    masks-again : (l : ℕ) → masksFrom (addMask ds m) (replicate l m ++ rest) ≡ masksFrom (addMask ds m) rest
+    unfolding masksFrom
+    masks-again zero = refl
+    masks-again (suc l) = ap (λ (q : List ℕ). masksFrom q (replicate l m ++ rest)) again ∙ masks-again l
+
+    kinds-again : (l : ℕ) → kindsFrom (addMask ds m) (replicate l m ++ rest) ≡ replicate l (kindOf ds m) ++ kindsFrom (addMask ds m) rest
+    unfolding kindsFrom
+    kinds-again zero = refl
+    kinds-again (suc l) =
+        ap₂ (λ (k : ℕ) (q : List ℕ). k ∷ kindsFrom q (replicate l m ++ rest)) kind-again again ∙ ap (λ (q : List ℕ). kindOf ds m ∷ q) (kinds-again l)
+
+    pub masks-stretch : (l : ℕ) → 0 < l → masksFrom ds (replicate l m ++ rest) ≡ masksFrom (addMask ds m) rest
+    unfolding masksFrom
+    masks-stretch zero h = absurd (omega arith)
+    masks-stretch (suc l) h = masks-again l
+
+    pub kinds-stretch : (l : ℕ) → 0 < l → kindsFrom ds (replicate l m ++ rest) ≡ replicate l (kindOf ds m) ++ kindsFrom (addMask ds m) rest
+    unfolding kindsFrom
+    kinds-stretch zero h = absurd (omega arith)
+    kinds-stretch (suc l) h = ap (λ (q : List ℕ). kindOf ds m ∷ q) (kinds-again l)
 
 -- ---- one mask more
 
@@ -125,17 +141,6 @@ abbrev kindMade : ℕ → ℕ → Kind
 kindMade kind masks = record { kind = kind; masks = masks }
 
 module _ (m d : ℕ) (pairs : List ℕ) where
-  -- the mask before again
-  pub found-same : (last kind : ℕ) → Known (keys d pairs) last kind → m ≡ last → kind ≤ d → Found m d pairs pairs (kindMade kind d)
-  found-same last kind k e h =
-      record {
-        kind-is = k .kind-is ∙ ap (kindOf (keys d pairs)) (sym e);
-        masks-then = sym (ap (addMask (keys d pairs)) e ∙ k .there);
-        most = omega arith;
-        least = omega arith;
-        small = h;
-      }
-
   -- no minute
   pub found-none : m ≡ 0 → Found m d pairs pairs (kindMade 0 d)
   found-none e = rw e (record { kind-is = refl; masks-then = refl; most = omega arith; least = omega arith; small = omega arith })

@@ -102,9 +102,9 @@ mask-told ρ few f = go (ltb (minuteOf (ρ .cycle) f) (f .end))
 
 -- ---- all of them
 
-pub numbered : (s : List ℕ) {n d : ℕ} {kinds : List ℕ} (pairs sets : List ℕ) → length (rotaOf s .hours) ≤ 32 → NumberedTo s n d kinds pairs
-    → take d sets ≡ listOf d (bare pairs) → Numbered s n d kinds sets
-numbered s {n} {d} {kinds} pairs sets few t e = record { few = t .few; kinds-are = t .kinds-are; sets-are = sets-are }
+pub numbered : (s : List ℕ) {ne nc d : ℕ} {kinds lens ends : List ℕ} (pairs sets : List ℕ) → length (rotaOf s .hours) ≤ 32
+    → NumberedTo s ne nc d kinds lens ends pairs → take d sets ≡ listOf d (bare pairs) → Numbered s ne nc d kinds lens ends sets
+numbered s {ne} {nc} {d} pairs sets few t e = record { few = t .few; stretched = t .stretched; kinds-are = t .kinds-are; sets-are = sets-are }
   where
     told : All Told (masksFrom [] (masksOf s))
     told =

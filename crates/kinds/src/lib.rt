@@ -1,14 +1,14 @@
 // The fields of a rota by kind. What a role has in a field depends only on the mask of the field, which is the set of hours that hold there; the distinct
 // masks are numbered once for all roles, in the order of their first fields. A field without a minute is of kind 0, one with mask k of kind k + 1.
+// Neighbours of one era often have the same mask, so kinds are laid out by stretches: the kind of some neighbouring fields, and how many these are.
 ghost use mathlib.Core.Path.{_≡_};
-ghost use mathlib.Core.List.{_++_};
 ghost use Prim.Native.Nat.{_+_, _*_, _≤_, _<_};
-ghost use lib.ListN.{length, take};
+ghost use lib.ListN.{length, getD, take, drop, replicate};
 ghost use Rattle.ground.specs.Sequence.{listOf};
 ghost use Rattle.rota.specs.Inside.{Located};
-ghost use Rattle.derivation.specs.Kinds.{masksFrom, kindsFrom};
+ghost use Rattle.derivation.specs.Kinds.{masksFrom};
 ghost use Rattle.grid.specs.Grid.{Parted, Ready};
-ghost use Rattle.kinds.specs.Kinds.{keys, Held, Known, Found, RowRoom, Room, bare, Numbered, NumberedTo};
+ghost use Rattle.kinds.specs.Kinds.{keys, Held, Found, RowRoom, Room, Laid, bare, Numbered, NumberedTo};
 use rota::Layout;
 
 // The kind of a mask, and how many distinct masks there are with it.
@@ -17,23 +17,39 @@ pub struct Kind {
     pub masks: usize,
 }
 
-// The kind of mask m, after a field with mask `last` of kind `kind`: neighbours often have the same.
-fn kind_of(
-    m: u64,
-    last: u64,
-    kind: usize,
-    pairs: &mut [u64],
-    links: &mut [u16],
-    w: usize,
-    d: usize,
-) -> Kind
+// Where the stretches of an era end, and how many distinct masks there are then.
+pub struct EraNumbered {
+    pub end: usize,
+    pub masks: usize,
+}
+
+// How many fields from c on, of the n fields of an era with these masks, have the mask of field c: one at least, and at most 255, so that the number
+// fits a byte.
+fn stretch(row: &[u64], c: usize, n: usize) -> usize
+    requires { ⌜ (c < n) × (n ≤ length (now row)) ⌝ }
+    ensures { λ l. ⌜ (0 < l) × (l ≤ 255) × (c + l ≤ n) × (take l (drop c (now (row .entry))) ≡ replicate l (getD (now (row .entry)) c 0)) ⌝ }
+{
+    let m = row[c];
+    let mut most = n - c;
+    if 255 < most {
+        most = 255;
+    }
+    let mut l = 1;
+    while l < most {
+        if row[c + l] != m {
+            return l;
+        }
+        l += 1;
+    }
+    l
+}
+
+// The kind of mask m.
+fn kind_of(m: u64, pairs: &mut [u64], links: &mut [u16], w: usize, d: usize) -> Kind
     requires { ⌜ (2 * d + 1 < length (now pairs)) × (w + 2 * d + 1 < length (now links)) × (d < 33345) × (0 < w) × (w ≤ 65536) ⌝ }
-    requires { ⌜ Held w d (now pairs) (now links) × Known (keys d (now pairs)) last kind × (kind ≤ d) ⌝ }
+    requires { ⌜ Held w d (now pairs) (now links) ⌝ }
     ensures { λ k. ⌜ Found m d (now (pairs .entry)) (now (pairs .exit)) k × Held w (k .masks) (now (pairs .exit)) (now (links .exit)) ⌝ }
 {
-    if m == last {
-        return Kind { kind, masks: d };
-    }
     if m == 0 {
         return Kind { kind: 0, masks: d };
     }
@@ -50,39 +66,43 @@ fn kind_of(
     }
 }
 
-// The kinds of the n fields of an era with these masks, at `first` and the places after it: how many distinct masks there are then.
+// The stretches of an era whose n fields have these masks, at `first` and the places after it.
 fn number_row(
     row: &[u64],
     n: usize,
     kinds: &mut [u16],
+    lens: &mut [u8],
     first: usize,
     pairs: &mut [u64],
     links: &mut [u16],
     w: usize,
     d: usize,
-) -> usize
-    requires { ⌜ RowRoom n d first w (now row) (now kinds) (now pairs) (now links) × Held w d (now pairs) (now links) ⌝ }
-    ensures { λ r. ⌜ (take (first + n) (now (kinds .exit)) ≡ take first (now (kinds .entry)) ++ kindsFrom (keys d (now (pairs .entry))) (take n (now (row .entry))))
-        × (keys r (now (pairs .exit)) ≡ masksFrom (keys d (now (pairs .entry))) (take n (now (row .entry))))
-        × Held w r (now (pairs .exit)) (now (links .exit)) × (r ≤ d + n) ⌝ }
+) -> EraNumbered
+    requires { ⌜ RowRoom n d first w (now row) (now kinds) (now lens) (now pairs) (now links) × Held w d (now pairs) (now links) ⌝ }
+    ensures { λ r. ⌜ Laid (keys d (now (pairs .entry))) (now (row .entry)) n first (r .end) (now (kinds .entry)) (now (lens .entry)) (now (kinds .exit)) (now (lens .exit))
+        × (keys (r .masks) (now (pairs .exit)) ≡ masksFrom (keys d (now (pairs .entry))) (take n (now (row .entry))))
+        × Held w (r .masks) (now (pairs .exit)) (now (links .exit)) × (r .masks ≤ d + n) ⌝ }
 {
     let mut count = d;
-    let mut last = 0;
-    let mut kind = 0;
+    let mut j = first;
     let mut c = 0;
     while c < n {
         let m = row[c];
-        let k = kind_of(m, last, kind, pairs, links, w, count);
-        kinds[first + c] = k.kind as u16;
-        last = m;
-        kind = k.kind;
+        let l = stretch(row, c, n);
+        let k = kind_of(m, pairs, links, w, count);
+        kinds[j] = k.kind as u16;
+        lens[j] = l as u8;
         count = k.masks;
-        c += 1;
+        j += 1;
+        c += l;
     }
-    count
+    EraNumbered {
+        end: j,
+        masks: count,
+    }
 }
 
-// The kinds of all fields: eras, then cells. How many distinct masks there are.
+// The stretches of all fields, eras in turn: those of era i stand from ends[i] to before ends[i + 1]. How many distinct masks there are.
 fn number_all(
     s: &[u8],
     cycle: u32,
@@ -95,14 +115,17 @@ fn number_all(
     held: &[u64],
     row: &mut [u64],
     kinds: &mut [u16],
+    lens: &mut [u8],
+    ends: &mut [usize],
     pairs: &mut [u64],
     links: &mut [u16],
     w: usize,
 ) -> usize
     requires { ⌜ Ready (now s) cycle from h (now eras) ne (now cells) nc (now held) × (nc ≤ length (now row)) ⌝ }
-    requires { ⌜ Room (ne * nc) w (now kinds) (now pairs) (now links) × Held w 0 (now pairs) (now links) ⌝ }
-    ensures { λ d. ⌜ NumberedTo (now (s .entry)) (ne * nc) d (now (kinds .exit)) (now (pairs .exit)) ⌝ }
+    requires { ⌜ Room (ne * nc) ne w (now kinds) (now lens) (now ends) (now pairs) (now links) × Held w 0 (now pairs) (now links) ⌝ }
+    ensures { λ d. ⌜ NumberedTo (now (s .entry)) ne nc d (now (kinds .exit)) (now (lens .exit)) (now (ends .exit)) (now (pairs .exit)) ⌝ }
 {
+    ends[0] = 0;
     let mut i = 0;
     let mut first = 0;
     let mut d = 0;
@@ -111,9 +134,11 @@ fn number_all(
         let e = eras[i + 1];
         let dates = grid::era_mask(s, from, h, b);
         grid::era_masks(cycle, dates, b, e, cells, nc, held, row, 0);
-        d = number_row(row, nc, kinds, first, pairs, links, w, d);
-        first += nc;
+        let r = number_row(row, nc, kinds, lens, first, pairs, links, w, d);
+        first = r.end;
+        d = r.masks;
         i += 1;
+        ends[i] = first;
     }
     d
 }
@@ -130,7 +155,7 @@ fn keep(pairs: &[u64], d: usize, sets: &mut [u32])
     }
 }
 
-// Numbers the fields of a rota that is divided so: the kind of each, and the distinct masks without the bit for always. How many these are.
+// Numbers the fields of a rota that is divided so: their kinds by stretches, and the distinct masks without the bit for always. How many these are.
 pub fn number(
     s: &[u8],
     l: Layout,
@@ -141,14 +166,16 @@ pub fn number(
     held: &mut [u64],
     row: &mut [u64],
     kinds: &mut [u16],
+    lens: &mut [u8],
+    ends: &mut [usize],
     sets: &mut [u32],
     pairs: &mut [u64],
     links: &mut [u16],
     w: usize,
 ) -> usize
     requires { ⌜ Located (now s) l × Parted (now s) (now eras) ne (now cells) nc × (nc ≤ length (now held)) × (nc ≤ length (now row)) ⌝ }
-    requires { ⌜ Room (ne * nc) w (now kinds) (now pairs) (now links) × (ne * nc ≤ length (now sets)) ⌝ }
-    ensures { λ d. ⌜ Numbered (now (s .entry)) (ne * nc) d (now (kinds .exit)) (now (sets .exit)) ⌝ }
+    requires { ⌜ Room (ne * nc) ne w (now kinds) (now lens) (now ends) (now pairs) (now links) × (ne * nc ≤ length (now sets)) ⌝ }
+    ensures { λ d. ⌜ Numbered (now (s .entry)) ne nc d (now (kinds .exit)) (now (lens .exit)) (now (ends .exit)) (now (sets .exit)) ⌝ }
 {
     let n = l.counts;
     let h = n.hours as usize;
@@ -166,6 +193,8 @@ pub fn number(
         held,
         row,
         kinds,
+        lens,
+        ends,
         pairs,
         links,
         w,
