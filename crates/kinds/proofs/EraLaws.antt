@@ -1,4 +1,6 @@
 -- The loop over the eras: the stretches and the distinct masks of the fields of the eras passed.
+--     passed-none, passed-more, passed-all    at the start, after one era more, and at the end
+--     row-room, end-room                      there is room for the stretches of the next era
 -- Assumes nothing.
 use Prim.Native.Nat.{ℕ, _+_, _*_, _≤_, _<_}
 use mathlib.Core.Path.{_≡_, refl, sym, _∙_, ap, ap₂}
@@ -128,7 +130,7 @@ passed-none s eras ne nc w kinds lens ends pairs links l h =
 
 module _ {s eras : List ℕ} {ne nc w : ℕ} {kinds lens ends pairs links : List ℕ} {i first d : ℕ}
     (p : Passed s eras ne nc w kinds lens ends pairs links i first d) where
-  pub next-place : i < ne → i * nc + nc ≤ ne * nc
+  next-place : i < ne → i * nc + nc ≤ ne * nc
   next-place h = omega (arith, mul-le-mul-right nc h)
 
   pub row-room : (row₀ kinds₀ lens₀ ends₀ pairs₀ links₀ row : List ℕ) → i < ne → nc ≤ length row₀ → Room (ne * nc) ne w kinds₀ lens₀ ends₀ pairs₀ links₀

@@ -1,7 +1,7 @@
 -- The distinct masks as pairs of sets whose second set is empty: the kind of one more mask.
 --     masks-stretch, kinds-stretch  the masks and the kinds with one mask some times over
 --     found-none, found-entered     no minute, and a mask that the index entered
---     held-none, held-entered       the index of no mask, and after one that was entered
+--     mask-within, held-none        what the index asks of a mask, and the index of no mask
 -- Assumes nothing.
 use Prim.Native.Nat.{ℕ, zero, suc, _+_, _^_, _≤_, _<_}
 use mathlib.Core.Path.{_≡_, refl, sym, _∙_, ap, ap₂, subst}
@@ -143,7 +143,7 @@ kindMade kind masks = record { kind = kind; masks = masks }
 module _ (m d : ℕ) (pairs : List ℕ) where
   -- no minute
   pub found-none : m ≡ 0 → Found m d pairs pairs (kindMade 0 d)
-  found-none e = rw e (record { kind-is = refl; masks-then = refl; most = omega arith; least = omega arith; small = omega arith })
+  found-none e = rw e (record { kind-is = refl; masks-then = refl; most = omega arith; small = omega arith })
 
   -- one that the index entered
   module _ (ne : m ≡ 0 → ⊥) (alone : (k : ℕ) → k < d → permissionsAt pairs k ≡ 0) (k : ℕ) (pairs′ : List ℕ) (x : Entered 0 (maskEntry m) d pairs pairs′ k) where
@@ -163,17 +163,12 @@ module _ (m d : ℕ) (pairs : List ℕ) where
               ap (λ (q : ℕ). keys q pairs′) e ∙ keys-are (after d k) pairs′ (addNew eqb (keys d pairs) m) entered-then
               ∙ ap (λ (b : Bool). pick b (keys d pairs) (addNew eqb (keys d pairs) m)) (sym (ne-eqb m 0 ne));
           most = more (eqb k d) e;
-          least = least (eqb k d) e;
           small = small (eqb k d) refl e;
         }
       where
         more : (b : Bool) → n ≡ pick b (d + 1) d → n ≤ d + 1
         more true q = omega arith
         more false q = omega arith
-
-        least : (b : Bool) → n ≡ pick b (d + 1) d → d ≤ n
-        least true q = omega arith
-        least false q = omega arith
 
         small : (b : Bool) → eqb k d ≡ b → n ≡ pick b (d + 1) d → k + 1 ≤ n
         small true z q = omega (arith, x .most)

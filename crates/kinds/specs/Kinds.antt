@@ -30,7 +30,6 @@ pub record Found (m d : ℕ) (pairs pairs′ : List ℕ) (k : Kind) : Type 0 whe
   pub kind-is : k .kind ≡ kindOf (keys d pairs) m
   pub masks-then : keys (k .masks) pairs′ ≡ addMask (keys d pairs) m
   pub most : k .masks ≤ d + 1
-  pub least : d ≤ k .masks
   pub small : k .kind ≤ k .masks
 
 -- room for the stretches of n fields at `first`, with d distinct masks so far
