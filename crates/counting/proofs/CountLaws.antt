@@ -2,13 +2,16 @@
 --     role-rows-are, have-marks    the rows that a role's marks say are those of the rules, and every kind has a mark
 --     rows-counted                 what was counted of one role's rows
 --     Before, before-..            the loop
+--     Counting, counting-..        the loop with its scratch
 -- Assumes nothing.
 use Prim.Native.Nat.{ℕ, zero, suc, _+_, _-_, _*_, _≤_, _<_}
 use mathlib.Core.Path.{_≡_, refl, sym, _∙_, ap, ap₂}
+use mathlib.Core.Bool.{Bool, true}
 use mathlib.Core.List.{List, [], _∷_, map}
 use native.Mathlib.Omega.{arith}
-use lib.ListN.{length, getD, take, length-append}
+use lib.ListN.{length, getD, set, take, drop, length-append, length-set}
 use lib.Seq.{getD-take, length-take-le}
+use Rattle.ground.specs.Choice.{pick}
 use Rattle.ground.proofs.ListLaws.{all-in, at-in}
 use Rattle.rota.specs.RotaBytes.{rotaOf}
 use Rattle.derivation.specs.Cuts.{gaps}
@@ -18,7 +21,9 @@ use Rattle.derivation.specs.Rewriting.{fieldsOf, fields, sizeOf}
 use Rattle.derivation.specs.Roles.{rowsMarked, entriesAt, joinedAt, entriesFrom, joinedFrom, rewriteRoles}
 use Rattle.derivation.proofs.KindLaws.{kinds-most}
 use Rattle.derivation.proofs.RoleByRole.{entries-next, rows-next, entries-none, rows-none}
+use Rattle.derive.specs.Derive.{Room}
 use Rattle.derive.proofs.DeriveLaws.{masks-length}
+use Rattle.derive.proofs.ScratchLaws.{Lent, lent-start, lent-on, room-lent}
 use Rattle.grid.specs.Grid.{Parted}
 use Rattle.grid.proofs.LaidLaws.{fields-few}
 use Rattle.kinds.specs.Kinds.{masksOf, Numbered}
@@ -26,7 +31,8 @@ use Rattle.roles.specs.Parts.{RoleDerived, RoleDerivedTo}
 use Rattle.writing.specs.Parts.{fieldMarks, HaveMarks, roleRows, runsOf, CountedRows}
 use Rattle.writing.proofs.FieldLaws.{marks-long}
 use Rattle.writing.proofs.CountLaws.{runs-rows}
-use Rattle.counting.specs.Parts.{lengthWith, Laid, CountedTo}
+use Rattle.counting.specs.Parts.{lengthWith, Laid, CountedTo, KeepRoom}
+use Rattle.counting.proofs.KeptLaws.{PartRoom, keep-room-lent, room-at, found-few, Keeping, keeping-none, keeping-next}
 
 take-map : (f : ℕ → ℕ) (n : ℕ) (l : List ℕ) → take n (map f l) ≡ map f (take n l)
 take-map f zero l = refl
@@ -158,3 +164,54 @@ module _ (s : List ℕ) (first end : ℕ) where
           exact = λ l. whole e;
           over = λ l. omega (arith, size-least);
         }
+
+-- ---- the loop with its scratch
+
+-- where the roles are kept, those before role r are
+pub record Counting (keep : Bool) (s : List ℕ) (first end n : ℕ) (found₀ pairs₀ marks₀ links₀ found pairs marks links : List ℕ) (d rows r : ℕ) : Type 0 where
+  pub counts : Before s first end d rows r
+  pub lent : Lent pairs₀ marks₀ links₀ pairs marks links
+  pub found-long : length found ≡ length found₀
+  pub past : first ≤ r
+  pub keeping : keep ≡ true → Keeping s first (r - first) n d found pairs marks
+
+pub counting-none : (keep : Bool) (s : List ℕ) (first end n : ℕ) (found pairs marks links : List ℕ) → first ≤ end → end ≤ 32
+    → Counting keep s first end n found pairs marks links found pairs marks links 0 0 first
+counting-none keep s first end n found pairs marks links h m =
+    record {
+      counts = before-none s first end h m;
+      lent = lent-start pairs marks links;
+      found-long = refl;
+      past = omega arith;
+      keeping = λ e. rw (let z : first - first ≡ 0 = omega arith in z) (keeping-none found pairs marks);
+    }
+
+module _ {keep : Bool} {s : List ℕ} {first end n : ℕ} {found₀ pairs₀ marks₀ links₀ found pairs marks links : List ℕ} {d rows r : ℕ}
+    (c : Counting keep s first end n found₀ pairs₀ marks₀ links₀ found pairs marks links d rows r) (h : r < end) {at from : ℕ}
+    (ea : at ≡ pick keep (2 * d) 0) (ef : from ≡ pick keep ((r - first) * (n + 1)) 0) where
+  -- there is room for role r
+  pub counting-room : {w : ℕ} {sets : List ℕ} → Room n w sets pairs₀ marks₀ links₀ → (keep ≡ true → KeepRoom (end - first) n pairs₀ marks₀)
+      → PartRoom n w at from sets pairs marks links
+  counting-room r k =
+      room-at {roles = end - first} keep (room-lent (c .lent) r) (omega (arith, c .past)) (λ e. keep-room-lent (c .lent) (k e))
+      (λ e. omega (arith, found-few _ (c .keeping e .kept), c .keeping e .count)) ea ef
+
+  -- role r is derived, and its rows are counted
+  pub counting-next : {pairs′ marks′ links′ : List ℕ} (m k limit : ℕ) → length (masksFrom [] (masksOf s)) ≤ n → n ≤ 33345 → end ≤ first + length found₀
+      → length pairs′ ≡ length pairs → length marks′ ≡ length marks → length links′ ≡ length links → take at pairs′ ≡ take at pairs → take from marks′ ≡ take from marks
+      → RoleDerived s r n (drop at pairs′) (drop from marks′) m → RowsTo limit s r k → k ≤ limit
+      → Counting keep s first end n found₀ pairs₀ marks₀ links₀ (set found (r - first) m) pairs′ marks′ links′ (d + m) (rows + k) (r + 1)
+  counting-next {pairs′} {marks′} m k limit most few lf lp lm ll ep em q t l =
+      record {
+        counts = before-next s first end d rows r (c .counts) n m k limit h few q t l;
+        lent = lent-on (c .lent) lp lm ll;
+        found-long = length-set found (r - first) m ∙ c .found-long;
+        past = omega (arith, c .past);
+        keeping = λ e. go (ea ∙ ap (λ (b : Bool). pick b (2 * d) 0) e) (ef ∙ ap (λ (b : Bool). pick b ((r - first) * (n + 1)) 0) e) (c .keeping e);
+      }
+    where
+      go : at ≡ 2 * d → from ≡ (r - first) * (n + 1) → Keeping s first (r - first) n d found pairs marks
+          → Keeping s first (r + 1 - first) n (d + m) (set found (r - first) m) pairs′ marks′
+      go za zf g =
+          let i : r + 1 - first ≡ suc (r - first) = omega (arith, c .past) in
+          rw (i) (keeping-next (omega (arith, c .past)) most (omega (arith, c .past, c .found-long)) g (rw (za) at ep) (rw (zf) at em) (rw (za, zf) at q))

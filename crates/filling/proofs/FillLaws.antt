@@ -1,11 +1,13 @@
 -- The loop that writes: what the roles from r on have, written from where the loop stands, is the whole table's.
 -- Assumes nothing.
-use Prim.Native.Nat.{ℕ, _+_, _-_, _*_, _≤_, _<_}
+use Prim.Native.Nat.{ℕ, suc, _+_, _-_, _*_, _≤_, _<_}
 use mathlib.Core.Path.{_≡_, refl, sym, _∙_, ap, ap₂}
+use mathlib.Core.Bool.{Bool, true}
 use mathlib.Core.List.{List, _++_}
 use native.Mathlib.Omega.{arith}
-use lib.ListN.{length, take, length-append}
+use lib.ListN.{length, getD, take, drop, length-append}
 use lib.Seq.{sets, length-sets}
+use Rattle.ground.specs.Choice.{pick}
 use Rattle.ground.specs.Sequence.{joined}
 use Rattle.ground.proofs.SequenceLaws.{joined-append}
 use Rattle.endian.proofs.WrittenLaws.{sets-comm, sets-append}
@@ -16,10 +18,14 @@ use Rattle.table.specs.TableBytes.{entryBytes, rowBytes}
 use Rattle.derivation.specs.Rewriting.{sizeOf}
 use Rattle.derivation.specs.Roles.{entriesAt, joinedAt, entriesFrom, joinedFrom, rewriteRoles}
 use Rattle.derivation.proofs.RoleByRole.{entries-next, rows-next, entries-none, rows-none}
+use Rattle.derive.specs.Derive.{Room}
+use Rattle.derive.proofs.ScratchLaws.{Lent, lent-start, lent-on, room-lent}
 use Rattle.index.specs.Entries.{entriesTo}
 use Rattle.grid.specs.Grid.{Cuts}
 use Rattle.roles.specs.Parts.{RoleDerived}
 use Rattle.writing.proofs.WriteLaws.{entry-long, row-long}
+use Rattle.counting.specs.Parts.{KeepRoom, foundTo, Kept}
+use Rattle.counting.proofs.KeptLaws.{PartRoom, keep-room-lent, room-at, kept-less, found-few, found-more}
 
 -- cuts with another bound
 pub cuts-to : {l a : List ℕ} {n top : ℕ} (top′ : ℕ) → top ≤ top′ → Cuts l a n top → Cuts (take (n + 1) a) a n top′
@@ -128,3 +134,59 @@ module _ (s : List ℕ) (first end total : ℕ) where
 pub size-room : (τ : Table) (total n : ℕ) → total ≡ length (τ .entries) → sizeOf τ ≤ n → 16 + 17 * total + 16 * length (τ .rows) ≤ n
 unfolding sizeOf
 size-room τ total n e h = omega (arith, e)
+
+-- ---- the loop with its scratch
+
+-- where the roles were kept they still are, and those before role r have d derived roles
+pub record Held (keep : Bool) (s : List ℕ) (first end n total : ℕ) (found out₀ pairs₀ marks₀ links₀ out pairs marks links : List ℕ) (d p r : ℕ) : Type 0 where
+  pub filling : Filling s first end total out₀ out d p r
+  pub lent : Lent pairs₀ marks₀ links₀ pairs marks links
+  pub past : first ≤ r
+  pub kept : keep ≡ true → Kept s first (end - first) n found pairs marks
+  pub count : keep ≡ true → d ≡ foundTo found (r - first)
+
+module _ {keep : Bool} {s : List ℕ} {first end n total : ℕ} {found out₀ pairs₀ marks₀ links₀ out pairs marks links : List ℕ} {d p r : ℕ}
+    (c : Held keep s first end n total found out₀ pairs₀ marks₀ links₀ out pairs marks links d p r) (h : r < end) {at from : ℕ}
+    (ea : at ≡ pick keep (2 * d) 0) (ef : from ≡ pick keep ((r - first) * (n + 1)) 0) where
+  pub held-room : {w : ℕ} {sets : List ℕ} → Room n w sets pairs₀ marks₀ links₀ → (keep ≡ true → KeepRoom (end - first) n pairs₀ marks₀)
+      → PartRoom n w at from sets pairs marks links
+  held-room q k =
+      room-at {roles = end - first} keep (room-lent (c .lent) q) (omega (arith, c .past)) (λ e. keep-room-lent (c .lent) (k e))
+      (λ e. omega (arith, found-few (r - first) (kept-less (r - first) (omega (arith, c .past)) (c .kept e)), c .count e)) ea ef
+
+  -- role r is there where it was kept
+  pub held-role : keep ≡ true → RoleDerived s r n (drop at pairs) (drop from marks) (getD found (r - first) 0)
+  held-role e =
+      let za : at ≡ 2 * foundTo found (r - first) = ea ∙ ap (λ (b : Bool). pick b (2 * d) 0) e ∙ ap (λ (x : ℕ). 2 * x) (c .count e) in
+      let zf : from ≡ (r - first) * (n + 1) = ef ∙ ap (λ (b : Bool). pick b ((r - first) * (n + 1)) 0) e in
+      let zr : first + (r - first) ≡ r = omega (arith, c .past) in
+      rw (za, zf) (rw (zr) at (c .kept e .each (r - first) (omega (arith, c .past))))
+
+  pub held-next : {out′ pairs′ marks′ links′ : List ℕ} {p′ m : ℕ} → Filling s first end total out₀ out′ (d + m) p′ (r + 1)
+      → length pairs′ ≡ length pairs → length marks′ ≡ length marks → length links′ ≡ length links
+      → (keep ≡ true → (m ≡ getD found (r - first) 0) × (pairs′ ≡ pairs) × (marks′ ≡ marks))
+      → Held keep s first end n total found out₀ pairs₀ marks₀ links₀ out′ pairs′ marks′ links′ (d + m) p′ (r + 1)
+  held-next f lp lm ll same =
+      record {
+        filling = f;
+        lent = lent-on (c .lent) lp lm ll;
+        past = omega (arith, c .past);
+        kept = λ e. rw (same e .1, same e .2) (c .kept e);
+        count =
+            λ e.
+            let i : r + 1 - first ≡ suc (r - first) = omega (arith, c .past) in
+            rw (i) (omega (arith, c .count e, same e .0, found-more found (r - first)));
+      }
+
+pub held-start : (keep : Bool) (s : List ℕ) (first end n total : ℕ) (found out pairs marks links : List ℕ) → first ≤ end → end ≤ 32
+    → total ≡ length (rewriteRoles (rotaOf s) first end .entries) → (keep ≡ true → Kept s first (end - first) n found pairs marks)
+    → Held keep s first end n total found out pairs marks links out pairs marks links 0 (16 + 17 * total) first
+unfolding foundTo
+held-start keep s first end n total found out pairs marks links h k e q =
+    record {
+      filling = filling-start s first end total out h k e;
+      lent = lent-start pairs marks links;
+      past = omega arith;
+      kept = q;
+      count = λ z. rw (let i : first - first ≡ 0 = omega arith in i) refl;
+    }

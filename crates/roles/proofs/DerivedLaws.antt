@@ -1,6 +1,6 @@
 -- One role as `derive` derives it from the distinct masks is the role of the rules.
 -- Assumes nothing.
-use Prim.Native.Nat.{ℕ, _+_, _≤_, _<_}
+use Prim.Native.Nat.{ℕ, _+_, _*_, _≤_, _<_}
 use mathlib.Core.Path.{_≡_, refl, sym, _∙_, ap}
 use mathlib.Core.List.{List, [], _∷_, map, List·Memᴰ, List·Memᴰ·head, List·Memᴰ·tail}
 use native.Mathlib.Omega.{arith}
@@ -8,6 +8,7 @@ use lib.ListN.{length, getD, take}
 use lib.Seq.{getD-take}
 use Rattle.ground.specs.Sequence.{All}
 use Rattle.ground.proofs.ListLaws.{all-with, map-same}
+use Rattle.ground.proofs.SequenceLaws.{listOf-same}
 use Rattle.minutes.specs.Minutes.{Window}
 use Rattle.rota.specs.RotaBytes.{rolesOf, rotaOf}
 use Rattle.rota.specs.RotaRefusals.{rotaJudged}
@@ -20,7 +21,7 @@ use Rattle.derivation.specs.Kinds.{masksFrom, kindsFrom, byKind, masksIn}
 use Rattle.derivation.specs.Roles.{entriesAt, derivedFrom, marksFrom, rowsMarked}
 use Rattle.derivation.proofs.KindLaws.{derived-kinds, marks-kinds, kinds-most}
 use Rattle.derivation.proofs.RoleMarks.{Agree, agree-masks, role-entries, role-rows}
-use Rattle.index.specs.Entries.{entriesTo}
+use Rattle.index.specs.Entries.{entryAt, entriesTo}
 use Rattle.kinds.specs.Kinds.{masksOf}
 use Rattle.marking.specs.declared.Role.{Role}
 use Rattle.marking.specs.Role.{keptBy, roleOf}
@@ -81,3 +82,23 @@ module _ (s : List ℕ) (clear : rotaJudged s ≡ 0) (r : ℕ) (few : r < rolesO
     pub role-derived-to : (limit : ℕ) (pairs marks : List ℕ) (d : ℕ) → DerivedTo limit role sets n pairs marks d → RoleDerivedTo limit s r n pairs marks d
     role-derived-to limit pairs marks d q =
         record { few = q .few; least = omega (arith, q .least, ap length entries-all); whole = λ h. role-derived pairs marks d (q .whole h) }
+
+-- a role stands in the pairs of its derived roles and the marks of its kinds alone
+pub role-same : {s pairs marks pairs′ marks′ : List ℕ} {r n d : ℕ} → length (masksFrom [] (masksOf s)) ≤ n
+    → ((k : ℕ) → k < 2 * d → getD pairs′ k 0 ≡ getD pairs k 0) → ((k : ℕ) → k < n + 1 → getD marks′ k 0 ≡ getD marks k 0)
+    → RoleDerived s r n pairs marks d → RoleDerived s r n pairs′ marks′ d
+unfolding entriesTo
+role-same {s} {pairs} {marks} {pairs′} {marks′} {r} {n} {d} most ep em q =
+    record {
+      few = q .few;
+      entries-are =
+          listOf-same d (entryAt r pairs′) (entryAt r pairs) (λ k h. rw (ep (2 * k) (omega arith), ep (2 * k + 1) (omega arith)) refl)
+          ∙ q .entries-are;
+      entry-count = q .entry-count;
+      rows-are =
+          λ base.
+          ap (rowsMarked base (fields (rotaOf s)))
+          (map-same (byKind marks′) (byKind marks) (kindsFrom [] (masksOf s))
+          (all-with (λ (k : ℕ) h. em k (omega arith)) (kindsFrom [] (masksOf s)) (kinds-most [] (masksOf s))))
+          ∙ q .rows-are base;
+    }
