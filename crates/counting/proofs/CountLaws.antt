@@ -5,18 +5,18 @@
 --     Counting, counting-..        the loop with its scratch
 -- Assumes nothing.
 use Prim.Native.Nat.{ℕ, zero, suc, _+_, _-_, _*_, _≤_, _<_}
-use mathlib.Core.Path.{_≡_, refl, sym, _∙_, ap, ap₂}
+use mathlib.Core.Path.{_≡_, refl, sym, _∙_, ap, ap₂, subst}
 use mathlib.Core.Bool.{Bool, true}
-use mathlib.Core.List.{List, [], _∷_, map}
+use mathlib.Core.List.{List, [], map}
 use native.Mathlib.Omega.{arith}
-use lib.ListN.{length, getD, set, take, drop, length-append, length-set}
-use lib.Seq.{getD-take, length-take-le}
+use lib.ListN.{length, set, take, drop, length-append, length-map, length-set}
+use lib.Seq.{take-all}
 use Rattle.ground.specs.Choice.{pick}
-use Rattle.ground.proofs.ListLaws.{all-in, at-in}
+use Rattle.ground.specs.Sequence.{All}
 use Rattle.rota.specs.RotaBytes.{rotaOf}
 use Rattle.derivation.specs.Cuts.{gaps}
 use Rattle.derivation.specs.Joined.{joinRows}
-use Rattle.derivation.specs.Kinds.{byKind, masksFrom, kindsFrom}
+use Rattle.derivation.specs.Kinds.{byKind, masksFrom}
 use Rattle.derivation.specs.Rewriting.{fieldsOf, fields, sizeOf}
 use Rattle.derivation.specs.Roles.{rowsMarked, entriesAt, joinedAt, entriesFrom, joinedFrom, rewriteRoles}
 use Rattle.derivation.proofs.KindLaws.{kinds-most}
@@ -25,46 +25,51 @@ use Rattle.derive.specs.Derive.{Room}
 use Rattle.derive.proofs.DeriveLaws.{masks-length}
 use Rattle.derive.proofs.ScratchLaws.{Lent, lent-start, lent-on, room-lent}
 use Rattle.grid.specs.Grid.{Parted}
+use Rattle.grid.specs.Stretches.{fieldKinds, stretchCount}
 use Rattle.grid.proofs.LaidLaws.{fields-few}
+use Rattle.grid.proofs.StretchLaws.{fields-least, stretch-each}
 use Rattle.kinds.specs.Kinds.{masksOf, Numbered}
 use Rattle.roles.specs.Parts.{RoleDerived, RoleDerivedTo}
-use Rattle.writing.specs.Parts.{fieldMarks, HaveMarks, roleRows, runsOf, CountedRows}
-use Rattle.writing.proofs.FieldLaws.{marks-long}
-use Rattle.writing.proofs.CountLaws.{runs-rows}
+use Rattle.writing.specs.Parts.{fieldMarks, HaveMarks, roleRows, runsTo, CountedRows}
+use Rattle.writing.proofs.CountLaws.{stretches-rows}
 use Rattle.counting.specs.Parts.{lengthWith, Laid, CountedTo, KeepRoom}
 use Rattle.counting.proofs.KeptLaws.{PartRoom, keep-room-lent, room-at, found-few, Keeping, keeping-none, keeping-next}
 
-take-map : (f : ℕ → ℕ) (n : ℕ) (l : List ℕ) → take n (map f l) ≡ map f (take n l)
-take-map f zero l = refl
-take-map f (suc n) [] = refl
-take-map f (suc n) (x ∷ l) = ap (λ (q : List ℕ). f x ∷ q) (take-map f n l)
-
-module _ {s : List ℕ} {N n : ℕ} {kinds sets : List ℕ} (q : Numbered s N n kinds sets) where
-  -- every kind has a mark
-  pub have-marks : (marks : List ℕ) → N ≤ length kinds → n ≤ length sets → n < length marks → HaveMarks N kinds marks
-  have-marks marks lk ls lm =
+module _ {s : List ℕ} {ne nc n : ℕ} {kinds lens ends sets : List ℕ} (q : Numbered s ne nc n kinds lens ends sets) where
+  -- the kind of every stretch has a mark
+  pub have-marks : (marks : List ℕ) → n ≤ length sets → n < length marks → HaveMarks (stretchCount ends ne) kinds marks
+  have-marks marks ls lm =
+      let e : length (masksFrom [] (masksOf s)) ≡ n = ap length (sym (q .sets-are)) ∙ masks-length sets n ls in
       record {
-        long = lk;
+        long = q .stretched .long-kinds;
         below =
-            λ i h.
-            let e : length (masksFrom [] (masksOf s)) ≡ n = ap length (sym (q .sets-are)) ∙ masks-length sets n ls in
-            let k : length (kindsFrom [] (masksOf s)) ≡ N = ap length (sym (q .kinds-are)) ∙ length-take-le N kinds lk in
-            let z : getD kinds i 0 ≡ getD (kindsFrom [] (masksOf s)) i 0 = sym (getD-take N kinds i 0 h) ∙ ap (λ (l : List ℕ). getD l i 0) (q .kinds-are) in
-            omega (arith, all-in (λ (x : ℕ). x ≤ length (masksFrom [] (masksOf s))) (kindsFrom [] (masksOf s)) (kinds-most [] (masksOf s)) (at-in (kindsFrom [] (masksOf s)) i 0 (omega arith)));
+            λ j h.
+            omega (
+              arith,
+              stretch-each kinds lens (λ (k : ℕ). k ≤ length (masksFrom [] (masksOf s))) (stretchCount ends ne)
+                  (subst (All (λ (k : ℕ). k ≤ length (masksFrom [] (masksOf s)))) (sym (q .kinds-are)) (kinds-most [] (masksOf s))) (q .stretched .some) j h,
+            );
       }
+
+  -- there are no more stretches than fields
+  stretches-few : stretchCount ends ne ≤ ne * nc
+  stretches-few = omega (arith, fields-least kinds lens (stretchCount ends ne) (q .stretched .some), q .stretched .whole ne (omega arith))
 
 -- a limit that no role passes
 pub whole-role : {s pairs marks : List ℕ} {r n d : ℕ} → n ≤ 33345 → RoleDerivedTo 33345 s r n pairs marks d → RoleDerived s r n pairs marks d
 whole-role few q = q .whole (omega (arith, q .few))
 
 -- the rows that the marks of a role say are the role's
-pub role-rows-are : {s eras cells kinds sets : List ℕ} {ne nc n : ℕ} → Parted s eras ne cells nc → Numbered s (ne * nc) n kinds sets → {r : ℕ} {pairs marks : List ℕ} {d : ℕ}
-    → RoleDerived s r n pairs marks d → (base : ℕ) → roleRows base eras ne cells nc (fieldMarks marks kinds) ≡ joinedAt (rotaOf s) r base
+pub role-rows-are : {s eras cells kinds lens ends sets : List ℕ} {ne nc n : ℕ} → Parted s eras ne cells nc → Numbered s ne nc n kinds lens ends sets
+    → {r : ℕ} {pairs marks : List ℕ} {d : ℕ} → RoleDerived s r n pairs marks d
+    → (base : ℕ) → roleRows base eras ne cells nc (fieldMarks marks (fieldKinds kinds lens (stretchCount ends ne))) ≡ joinedAt (rotaOf s) r base
 unfolding roleRows fieldMarks joinedAt fields
-role-rows-are {s} {eras} {cells} {kinds} {ne = ne} {nc} g q {marks = marks} t base =
+role-rows-are {s} {eras} {cells} {kinds} {lens} {ends} {ne = ne} {nc} g q {marks = marks} t base =
+    let ks = fieldKinds kinds lens (stretchCount ends ne) in
+    let long : length (map (byKind marks) ks) ≡ ne * nc = length-map ks (byKind marks) ∙ q .stretched .whole ne (omega arith) in
     ap joinRows
-    (ap₂ (λ (x y : List ℕ). rowsMarked base (fieldsOf (gaps x) (gaps y)) (take (ne * nc) (map (byKind marks) kinds))) (g .era-cuts .are) (g .cell-cuts .are)
-    ∙ ap (rowsMarked base (fields (rotaOf s))) (take-map (byKind marks) (ne * nc) kinds ∙ ap (map (byKind marks)) (q .kinds-are))
+    (ap₂ (λ (x y : List ℕ). rowsMarked base (fieldsOf (gaps x) (gaps y)) (take (ne * nc) (map (byKind marks) ks))) (g .era-cuts .are) (g .cell-cuts .are)
+    ∙ ap (rowsMarked base (fields (rotaOf s))) (take-all (ne * nc) (map (byKind marks) ks) (omega arith) ∙ ap (map (byKind marks)) (q .kinds-are))
     ∙ t .rows-are base)
 
 -- what was counted of a role's rows: no more than it has, and all where they are not over the limit
@@ -73,15 +78,20 @@ pub record RowsTo (limit : ℕ) (s : List ℕ) (r rows : ℕ) : Type 0 where
   pub least : (base : ℕ) → rows ≤ length (joinedAt (rotaOf s) r base)
   pub whole : rows ≤ limit → (base : ℕ) → rows ≡ length (joinedAt (rotaOf s) r base)
 
-pub rows-counted : {s : List ℕ} {ne nc n : ℕ} {kinds sets : List ℕ} → Laid s ne nc n kinds sets → {r : ℕ} {pairs marks : List ℕ} {d : ℕ} → RoleDerived s r n pairs marks d
-    → (limit rows : ℕ) → CountedRows limit ne nc (fieldMarks marks kinds) rows → RowsTo limit s r rows
-rows-counted {s} {ne} {nc} {n} {kinds} {sets} l {r} {pairs} {marks} {d} t limit rows c =
-    record { few = omega (arith, c .most, fields-few (l .parted)); least = λ base. omega (arith, c .least, all base); whole = λ h base. c .whole h ∙ sym (all base) }
+pub rows-counted : {s : List ℕ} {ne n : ℕ} {kinds ends sets : List ℕ} → Laid s ne n kinds ends sets → {r : ℕ} {pairs marks : List ℕ} {d : ℕ}
+    → RoleDerived s r n pairs marks d → (limit rows : ℕ) → CountedRows limit (runsTo ends (fieldMarks marks kinds) ne) (stretchCount ends ne) rows
+    → RowsTo limit s r rows
+rows-counted {s} {ne} {n} {kinds} {ends} l {r} {marks = marks} t limit rows c =
+    record {
+      few = omega (arith, c .most, stretches-few (l .numbered), fields-few (l .parted));
+      least = λ base. omega (arith, c .least, all base);
+      whole = λ h base. c .whole h ∙ sym (all base);
+    }
   where
-    all : (base : ℕ) → length (joinedAt (rotaOf s) r base) ≡ runsOf ne nc (fieldMarks marks kinds)
+    all : (base : ℕ) → length (joinedAt (rotaOf s) r base) ≡ runsTo ends (fieldMarks marks kinds) ne
     all base =
         ap length (sym (role-rows-are (l .parted) (l .numbered) t base))
-        ∙ runs-rows base ne nc (l .eras) (l .cells) (fieldMarks marks kinds) (l .parted .era-cuts) (l .parted .cell-cuts) (omega (arith, marks-long marks kinds, l .kinds-long))
+        ∙ stretches-rows (l .numbered .stretched) marks base (l .eras) (l .cells) (l .parted .era-cuts) (l .parted .cell-cuts)
 
 -- of the roles from `first` to `end`, d derived roles and so many rows before role r
 pub record Before (s : List ℕ) (first end d rows r : ℕ) : Type 0 where

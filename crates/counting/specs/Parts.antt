@@ -14,13 +14,14 @@ use Rattle.counting.specs.declared.Count.{Count}
 abbrev pub lengthWith : ℕ → ℕ → ℕ
 lengthWith d rows = 16 + 17 * d + 16 * rows
 
--- the kinds of the fields of ne eras by nc cells, and the n sets of hours
-pub record Laid (s : List ℕ) (ne nc n : ℕ) (kinds sets : List ℕ) : Type 0 where
+-- the stretches of the ne eras of a rota, by their kinds, and the n sets of hours
+pub record Laid (s : List ℕ) (ne n : ℕ) (kinds ends sets : List ℕ) : Type 0 where
   pub eras : List ℕ
   pub cells : List ℕ
+  pub nc : ℕ
+  pub lens : List ℕ
   pub parted : Parted s eras ne cells nc
-  pub numbered : Numbered s (ne * nc) n kinds sets
-  pub kinds-long : ne * nc ≤ length kinds
+  pub numbered : Numbered s ne nc n kinds lens ends sets
 
 -- counts that are a table's, or already too many for the room
 pub record CountedTo (τ : Table) (room : ℕ) (k : Count) : Type 0 where

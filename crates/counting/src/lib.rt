@@ -71,8 +71,8 @@ pub fn count_all(
     first: u8,
     end: u8,
     kinds: &[u16],
+    ends: &[usize],
     ne: usize,
-    nc: usize,
     sets: &[u32],
     n: usize,
     room: usize,
@@ -84,7 +84,7 @@ pub fn count_all(
     w: usize,
 ) -> Count
     requires { ⌜ Located (now s) l × (first ≤ end) × (end ≤ rolesOf (now s)) × (end ≤ first + length (now found)) ⌝ }
-    requires { ⌜ Laid (now s) ne nc n (now kinds) (now sets) × Room n w (now sets) (now pairs) (now marks) (now links)
+    requires { ⌜ Laid (now s) ne n (now kinds) (now ends) (now sets) × Room n w (now sets) (now pairs) (now marks) (now links)
         × (keep ≡ true → KeepRoom (end - first) n (now pairs) (now marks)) ⌝ }
     ensures { λ k. ⌜ CountedTo (rewriteRoles (rotaOf (now (s .entry))) first end) room k
         × (keep ≡ true → lengthWith (k .entries) (k .rows) ≤ room
@@ -116,7 +116,7 @@ pub fn count_all(
         if room < 16 + 17 * d + 16 * rows {
             return Count { entries: d, rows };
         }
-        rows += writing::count_rows(kinds, ne, nc, &marks[from..], room / 16);
+        rows += writing::count_rows(kinds, ends, ne, &marks[from..], room / 16);
         if room < 16 + 17 * d + 16 * rows {
             return Count { entries: d, rows };
         }

@@ -60,6 +60,8 @@ pub fn write_all(
     cells: &[u32],
     nc: usize,
     kinds: &[u16],
+    lens: &[u8],
+    ends: &[usize],
     masks: &[u32],
     n: usize,
     keep: bool,
@@ -70,7 +72,7 @@ pub fn write_all(
     w: usize,
 )
     requires { ⌜ Located (now s) l × (first ≤ end) × (end ≤ rolesOf (now s)) × (end ≤ first + length (now found)) ⌝ }
-    requires { ⌜ Parted (now s) (now eras) ne (now cells) nc × Numbered (now s) (ne * nc) n (now kinds) (now masks) × (ne * nc ≤ length (now kinds))
+    requires { ⌜ Parted (now s) (now eras) ne (now cells) nc × Numbered (now s) ne nc n (now kinds) (now lens) (now ends) (now masks)
         × Room n w (now masks) (now pairs) (now marks) (now links)
         × (keep ≡ true → KeepRoom (end - first) n (now pairs) (now marks) × Kept (now s) first (end - first) n (now found) (now pairs) (now marks)) ⌝ }
     requires { ⌜ (total ≡ length (rewriteRoles (rotaOf (now s)) first end .entries)) × (sizeOf (rewriteRoles (rotaOf (now s)) first end) ≤ length (now out)) ⌝ }
@@ -101,7 +103,19 @@ pub fn write_all(
             w,
         );
         writing::write_entries(out, 16 + 17 * d, r, &pairs[at..], m);
-        p = writing::write_rows(out, p, d as u32, eras, ne, cells, nc, kinds, &marks[from..]);
+        p = writing::write_rows(
+            out,
+            p,
+            d as u32,
+            eras,
+            ne,
+            cells,
+            nc,
+            kinds,
+            lens,
+            ends,
+            &marks[from..],
+        );
         d += m;
         r += 1;
     }
