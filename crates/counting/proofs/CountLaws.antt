@@ -33,6 +33,7 @@ use Rattle.roles.specs.Parts.{RoleDerived, RoleDerivedTo}
 use Rattle.writing.specs.Parts.{fieldMarks, HaveMarks, roleRows, runsTo, CountedRows}
 use Rattle.writing.proofs.CountLaws.{stretches-rows}
 use Rattle.counting.specs.Parts.{lengthWith, Laid, CountedTo, KeepRoom}
+use Rattle.counting.proofs.RowLaws.{rows-least}
 use Rattle.counting.proofs.KeptLaws.{PartRoom, keep-room-lent, room-at, found-few, Keeping, keeping-none, keeping-next}
 
 module _ {s : List ℕ} {ne nc n : ℕ} {kinds lens ends sets : List ℕ} (q : Numbered s ne nc n kinds lens ends sets) where
@@ -130,16 +131,16 @@ module _ (s : List ℕ) (first end : ℕ) where
           rows-left = omega (arith, b .rows-left, f, t .whole l d);
         }
 
-    -- within a role there are too many derived roles already
+    -- within a role there are too many derived roles already, each with a row at least
     pub entries-stop : (n limit : ℕ) {pairs marks : List ℕ} (m : ℕ) → r < end → n ≤ 33345 → RoleDerivedTo limit s r n pairs marks m
-        → (room : ℕ) → room < lengthWith (d + m) rows → CountedTo (rewriteRoles (rotaOf s) first end) room (record { entries = d + m; rows = rows })
+        → (room : ℕ) → room < lengthWith (d + m) (rows + m) → CountedTo (rewriteRoles (rotaOf s) first end) room (record { entries = d + m; rows = rows + m })
     unfolding sizeOf
     entries-stop n limit m h few q room over =
         record {
           few = omega (arith, b .few-roles, b .few, q .few);
-          few-rows = omega (arith, b .few-roles, b .few-rows);
+          few-rows = omega (arith, b .few-roles, b .few-rows, q .few);
           exact = λ l. absurd (omega arith);
-          over = λ l. omega (arith, b .entries, b .rows-left, entries-split h, q .least);
+          over = λ l. omega (arith, b .entries, b .rows-left, entries-split h, rows-split h, q .least, rows-least (rotaOf s) r d);
         }
 
     -- or too many rows

@@ -63,8 +63,8 @@ pub fn derive_at(
 }
 
 // Counts the derived roles and rows of the roles from `first` on, up to `end`. It stops as soon as a table of so many is longer than the room, since
-// the length only grows: within a role by its derived roles alone, of 17 bytes each, and then by its rows alone, of 16. Where the roles are kept,
-// `found` has how many derived roles each has.
+// the length only grows: within a role by its derived roles alone, of 17 bytes each with a row of 16 at least, and then by its rows alone. Where the
+// roles are kept, `found` has how many derived roles each has.
 pub fn count_all(
     s: &[u8],
     l: Layout,
@@ -103,7 +103,7 @@ pub fn count_all(
             r,
             sets,
             n,
-            room / 17,
+            room / 33,
             pairs,
             at,
             marks,
@@ -113,8 +113,12 @@ pub fn count_all(
         );
         found[i] = m;
         d += m;
-        if room < 16 + 17 * d + 16 * rows {
-            return Count { entries: d, rows };
+        let least = rows + m;
+        if room < 16 + 17 * d + 16 * least {
+            return Count {
+                entries: d,
+                rows: least,
+            };
         }
         rows += writing::count_rows(kinds, ends, ne, &marks[from..], room / 16);
         if room < 16 + 17 * d + 16 * rows {
