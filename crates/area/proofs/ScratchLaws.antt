@@ -9,16 +9,18 @@ use Rattle.grid.specs.Grid.{Parted}
 use Rattle.kinds.specs.Kinds.{Numbered}
 use Rattle.kinds.specs.Kinds as numbering
 use Rattle.derive.specs.Derive.{Room}
-use Rattle.counting.specs.Parts.{Laid}
+use Rattle.counting.specs.Parts.{Laid, KeepRoom}
 use Rattle.area.specs.Parts.{Scratch}
 
-module _ {n nc most : ℕ} {held row kinds masks pairs marks links : List ℕ} (s : Scratch n nc most held row kinds masks pairs marks links) where
+module _ {n nc most : ℕ} {held row kinds lens masks pairs marks links : List ℕ} (s : Scratch n nc most held row kinds lens masks pairs marks links) where
   -- for numbering the fields, with w trees
-  pub number-room : {w : ℕ} → 0 < w → w ≤ most → numbering.Room n w kinds pairs links
-  number-room h l =
+  pub number-room : {w ne : ℕ} {ends : List ℕ} → 0 < w → w ≤ most → ne < length ends → numbering.Room n ne w kinds lens ends pairs links
+  number-room h l e =
       record {
         few = s .few;
         for-kinds = s .for-kinds;
+        for-lens = s .for-lens;
+        for-ends = e;
         for-pairs = s .for-pairs;
         for-links = omega (arith, s .for-links);
         some = h;
@@ -40,20 +42,26 @@ module _ {n nc most : ℕ} {held row kinds masks pairs marks links : List ℕ} (
       }
 
 -- what counting asks of the kinds
-pub laid : {s eras cells : List ℕ} {ne nc d : ℕ} {kinds masks : List ℕ} → Parted s eras ne cells nc → Numbered s (ne * nc) d kinds masks → ne * nc ≤ length kinds
-    → Laid s ne nc d kinds masks
-laid {eras = eras} {cells} g q l = record { eras = eras; cells = cells; parted = g; numbered = q; kinds-long = l }
+pub laid : {s eras cells : List ℕ} {ne nc d : ℕ} {kinds lens ends masks : List ℕ} → Parted s eras ne cells nc → Numbered s ne nc d kinds lens ends masks
+    → Laid s ne d kinds ends masks
+laid {eras = eras} {cells} {nc = nc} {lens = lens} g q = record { eras = eras; cells = cells; nc = nc; lens = lens; parted = g; numbered = q }
+
+-- room to keep so many roles, by the lengths of the scratch
+pub keep-room : {roles n a b : ℕ} {pairs marks : List ℕ} → length pairs ≡ a → length marks ≡ b → (2 * (roles * n) ≤ a) × (roles * (n + 1) ≤ b)
+    → KeepRoom roles n pairs marks
+keep-room p m h = record { for-pairs = omega (arith, h .0); for-marks = omega (arith, h .1) }
 
 -- scratch for m fields and h cells is scratch for n and nc
-pub scratch-of : {n nc m h most : ℕ} {held row kinds masks pairs marks links : List ℕ} → n ≤ 33345 → n ≤ m → nc ≤ h → 0 < most → most ≤ 65536 → length held ≡ h → length row ≡ h
-    → length kinds ≡ m → length masks ≡ m → length pairs ≡ 2 * m → length marks ≡ m + 1 → length links ≡ most + 2 * m
-    → Scratch n nc most held row kinds masks pairs marks links
-scratch-of few l k p q eh er ek em ep en el =
+pub scratch-of : {n nc m h most : ℕ} {held row kinds lens masks pairs marks links : List ℕ} → n ≤ 33345 → n ≤ m → nc ≤ h → 0 < most → most ≤ 65536 → length held ≡ h → length row ≡ h
+    → length kinds ≡ m → length lens ≡ m → length masks ≡ m → length pairs ≡ 2 * m → length marks ≡ m + 1 → length links ≡ most + 2 * m
+    → Scratch n nc most held row kinds lens masks pairs marks links
+scratch-of few l k p q eh er ek ez em ep en el =
     record {
       few = few;
       for-held = omega arith;
       for-row = omega arith;
       for-kinds = omega arith;
+      for-lens = omega arith;
       for-masks = omega arith;
       for-pairs = omega arith;
       for-marks = omega arith;

@@ -102,6 +102,9 @@ module _ (s : List ℕ) (l : Layout) (w : Located s l) where
         × (after ≡ sets area 0 (headerBytes (l .counts .cycle) (l .counts .users) (l .counts .permissions) (l .counts .roles) (k .entries) (k .rows)))
     begun t = started-yes area (countsWith l (k .entries) (k .rows)) (lengthWith (k .entries) (k .rows)) b after eb t ea
 
+    pub has-room : b ≡ true → lengthWith (k .entries) (k .rows) ≤ length area
+    has-room t = begun t .0
+
     fits-so : lengthWith (k .entries) (k .rows) ≤ length area → sizeOf (rewriteRoles (rotaOf s) first end) ≤ length area
     unfolding sizeOf
     fits-so h = let z = q .exact h in omega (arith, z .0, z .1)

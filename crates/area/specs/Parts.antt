@@ -33,11 +33,12 @@ pub record HeaderFits (n : Counts) : Type 0 where
   pub roles : n .roles < 65536
 
 -- lent scratch with a place for each of n fields and of nc cells, and for `most` trees
-pub record Scratch (n nc most : ℕ) (held row kinds masks pairs marks links : List ℕ) : Type 0 where
+pub record Scratch (n nc most : ℕ) (held row kinds lens masks pairs marks links : List ℕ) : Type 0 where
   pub few : n ≤ 33345
   pub for-held : nc ≤ length held
   pub for-row : nc ≤ length row
   pub for-kinds : n ≤ length kinds
+  pub for-lens : n ≤ length lens
   pub for-masks : n ≤ length masks
   pub for-pairs : 2 * n ≤ length pairs
   pub for-marks : n < length marks

@@ -1,6 +1,7 @@
 // The table in the area, by way of lent scratch: written where it fits, else nothing is.
 ghost use mathlib.Core.Path.{_≡_};
-ghost use Prim.Native.Nat.{_*_, _≤_, _<_};
+ghost use mathlib.Core.Bool.{true};
+ghost use Prim.Native.Nat.{_+_, _-_, _*_, _≤_, _<_};
 ghost use lib.ListN.{length};
 ghost use Rattle.rota.specs.Inside.{Located};
 ghost use Rattle.rota.specs.RotaBytes.{rolesOf, rotaOf};
@@ -8,7 +9,7 @@ ghost use Rattle.derivation.specs.Roles.{rewriteRoles};
 ghost use Rattle.derive.specs.Derive.{Room};
 ghost use Rattle.grid.specs.Grid.{Parted};
 ghost use Rattle.kinds.specs.Kinds.{Numbered};
-ghost use Rattle.counting.specs.Parts.{CountedTo};
+ghost use Rattle.counting.specs.Parts.{lengthWith, CountedTo, KeepRoom, Kept};
 ghost use lib.Dec.{leb};
 ghost use Rattle.area.specs.Parts.{HeaderFits, Scratch, started, placedOutcome, placedArea};
 ghost use Rattle.area.specs.Answers.{writtenGiven};
@@ -50,16 +51,22 @@ fn write_table(
     cells: &[u32],
     nc: usize,
     kinds: &[u16],
+    lens: &[u8],
+    ends: &[usize],
     masks: &[u32],
     n: usize,
+    keep: bool,
+    found: &[usize],
     pairs: &mut [u64],
     marks: &mut [u16],
     links: &mut [u16],
     w: usize,
 ) -> Rewritten
     requires { ⌜ Located (now s) l × (first ≤ end) × (end ≤ rolesOf (now s)) × CountedTo (rewriteRoles (rotaOf (now s)) first end) (length (now out)) k ⌝ }
-    requires { ⌜ Parted (now s) (now eras) ne (now cells) nc × Numbered (now s) (ne * nc) n (now kinds) (now masks) × (ne * nc ≤ length (now kinds))
-        × Room n w (now masks) (now pairs) (now marks) (now links) ⌝ }
+    requires { ⌜ Parted (now s) (now eras) ne (now cells) nc × Numbered (now s) ne nc n (now kinds) (now lens) (now ends) (now masks)
+        × Room n w (now masks) (now pairs) (now marks) (now links) × (end ≤ first + length (now found))
+        × (keep ≡ true → KeepRoom (end - first) n (now pairs) (now marks)
+        × (lengthWith (k .entries) (k .rows) ≤ length (now out) → Kept (now s) first (end - first) n (now found) (now pairs) (now marks))) ⌝ }
     ensures { λ r. ⌜ (writtenGiven r ≡ placedOutcome (rewriteRoles (rotaOf (now (s .entry))) first end) (length (now (out .entry))))
         × (now (out .exit) ≡ placedArea (rewriteRoles (rotaOf (now (s .entry))) first end) (now (out .entry))) ⌝ }
 {
@@ -88,8 +95,12 @@ fn write_table(
             cells,
             nc,
             kinds,
+            lens,
+            ends,
             masks,
             n,
+            keep,
+            found,
             pairs,
             marks,
             links,
@@ -118,6 +129,17 @@ fn trees(n: usize, most: usize) -> usize
     most
 }
 
+// Whether there is room to keep so many roles from the count to the writing, with n marks each behind that of kind 0.
+fn all_fit(roles: usize, n: usize, pairs: usize, marks: usize) -> bool
+    requires { ⌜ (roles ≤ 32) × (n ≤ 33345) ⌝ }
+    ensures { λ r. ⌜ (r ≡ true → (2 * (roles * n) ≤ pairs) × (roles * (n + 1) ≤ marks)) ⌝ }
+{
+    if pairs < 2 * (roles * n) {
+        return false;
+    }
+    roles * (n + 1) <= marks
+}
+
 // Rewrites the roles from `first` on, up to `end`, of a rota that is read and divided, in lent scratch with a place for each field.
 pub fn rewrite_with(
     s: &[u8],
@@ -132,6 +154,7 @@ pub fn rewrite_with(
     held: &mut [u64],
     row: &mut [u64],
     kinds: &mut [u16],
+    lens: &mut [u8],
     masks: &mut [u32],
     pairs: &mut [u64],
     marks: &mut [u16],
@@ -139,10 +162,12 @@ pub fn rewrite_with(
     most: usize,
 ) -> Rewritten
     requires { ⌜ Located (now s) l × (first ≤ end) × (end ≤ rolesOf (now s)) × Parted (now s) (now eras) ne (now cells) nc ⌝ }
-    requires { ⌜ Scratch (ne * nc) nc most (now held) (now row) (now kinds) (now masks) (now pairs) (now marks) (now links) ⌝ }
+    requires { ⌜ Scratch (ne * nc) nc most (now held) (now row) (now kinds) (now lens) (now masks) (now pairs) (now marks) (now links) ⌝ }
     ensures { λ r. ⌜ (writtenGiven r ≡ placedOutcome (rewriteRoles (rotaOf (now (s .entry))) first end) (length (now (out .entry))))
         × (now (out .exit) ≡ placedArea (rewriteRoles (rotaOf (now (s .entry))) first end) (now (out .entry))) ⌝ }
 {
+    let mut ends = [0usize; 66];
+    let mut found = [0usize; 32];
     let all = trees(ne * nc, most);
     let n = kinds::number(
         s,
@@ -154,23 +179,28 @@ pub fn rewrite_with(
         held,
         row,
         kinds,
+        lens,
+        &mut ends,
         masks,
         pairs,
         links,
         all,
     );
     let w = trees(n, most);
+    let keep = all_fit((end - first) as usize, n, pairs.len(), marks.len());
     let k = counting::count_all(
         s,
         l,
         first,
         end,
         kinds,
+        &ends,
         ne,
-        nc,
         masks,
         n,
         out.len(),
+        keep,
+        &mut found,
         pairs,
         marks,
         links,
@@ -188,8 +218,12 @@ pub fn rewrite_with(
         cells,
         nc,
         kinds,
+        lens,
+        &ends,
         masks,
         n,
+        keep,
+        &found,
         pairs,
         marks,
         links,

@@ -1,5 +1,5 @@
 use native.Mathlib.Omega.{arith}
-use Rattle.area.proofs.TableLaws.{header-fits, can-write, has-written, has-not}
+use Rattle.area.proofs.TableLaws.{header-fits, has-room, can-write, has-written, has-not}
 -- The size is that of the counts, which are the table's or already too many: so 20 is given exactly where the table does not fit, and else the header
 -- and all parts are written.
 use borrow.Author.Needs.{needs}
@@ -18,25 +18,26 @@ mul-size-2 c = search needs
 add-size-2 : tie.Need-add-size-2
 add-size-2 c = search needs
 
-cast-t26 : tie.Need-cast-t26
-cast-t26 c = search needs
+cast-t30 : tie.Need-cast-t30
+cast-t30 c = search needs
 
-cast-t27 : tie.Need-cast-t27
-cast-t27 c = search needs
+cast-t31 : tie.Need-cast-t31
+cast-t31 c = search needs
 
 start-table-requires : tie.Need-start-table-requires
-start-table-requires c κs = let a = c .before .before .before .before .before .before .before .before .before .before .before .args in (header-fits (a .s .now) (a .l) (c .before .before .before .before .before .before .before .before .before .before .before .pre .0 .0) (a .k .entries) (a .k .rows), omega arith)
+start-table-requires c κs = let a = c .before .before .before .before .before .before .before .before .before .before .before .before .before .before .args in (header-fits (a .s .now) (a .l) (c .before .before .before .before .before .before .before .before .before .before .before .before .before .before .pre .0 .0) (a .k .entries) (a .k .rows), omega arith)
 
 write-all-requires : tie.Need-write-all-requires
-write-all-requires c κs = let a = c .before .before .before .before .before .before .before .before .before .before .before .before .before .before .before .before .before .before .before .args in let p = c .before .before .before .before .before .before .before .before .before .before .before .before .before .before .before .before .before .before .before .pre in let t = c .before .before .before .before .before .before .before .start-table in
+write-all-requires c κs = let a = c .before .before .before .before .before .before .before .before .before .before .before .before .before .before .before .before .before .before .before .before .before .before .args in let p = c .before .before .before .before .before .before .before .before .before .before .before .before .before .before .before .before .before .before .before .before .before .before .pre in let t = c .before .before .before .before .before .before .before .start-table in
     let g = can-write (a .s .now) (a .l) (p .0 .0) (a .first) (a .end) (a .out .now) (a .k) (p .0 .3) (t .result) _ (t .ensures .0) (t .ensures .1) (c .before .before .before .before .if1 .taken) in
-    ((p .0 .0, p .0 .1, p .0 .2), (p .1, g))
+    let z = has-room (a .s .now) (a .l) (p .0 .0) (a .first) (a .end) (a .out .now) (a .k) (p .0 .3) (t .result) _ (t .ensures .0) (t .ensures .1) (c .before .before .before .before .if1 .taken) in
+    ((p .0 .0, p .0 .1, p .0 .2, p .1 .3), ((p .1 .0, p .1 .1, p .1 .2, λ e. (p .1 .4 e .0, p .1 .4 e .1 z)), g))
 
-cast-t40 : tie.Need-cast-t40
-cast-t40 c = omega (arith, c .before .before .before .before .before .before .before .before .before .before .before .before .before .before .before .before .before .before .before .before .before .before .before .before .before .before .before .before .pre .0 .3 .few)
+cast-t44 : tie.Need-cast-t44
+cast-t44 c = omega (arith, c .before .before .before .before .before .before .before .before .before .before .before .before .before .before .before .before .before .before .before .before .before .before .before .before .before .before .before .before .before .before .before .pre .0 .3 .few)
 
-cast-t41 : tie.Need-cast-t41
-cast-t41 c = omega (arith, c .before .before .before .before .before .before .before .before .before .before .before .before .before .before .before .before .before .before .before .before .before .before .before .before .before .before .before .before .pre .0 .3 .few-rows)
+cast-t45 : tie.Need-cast-t45
+cast-t45 c = omega (arith, c .before .before .before .before .before .before .before .before .before .before .before .before .before .before .before .before .before .before .before .before .before .before .before .before .before .before .before .before .before .before .before .pre .0 .3 .few-rows)
 
 same-length : tie.Need-same-length
 same-length c = search needs
@@ -51,14 +52,14 @@ same-length-4 : tie.Need-same-length-4
 same-length-4 c = search needs
 
 returns : tie.Need-returns
-returns c = let a = c .before .before .before .before .before .before .before .before .before .before .before .before .before .before .before .before .before .before .before .before .before .before .before .before .before .before .before .before .args in let p = c .before .before .before .before .before .before .before .before .before .before .before .before .before .before .before .before .before .before .before .before .before .before .before .before .before .before .before .before .pre in let t = c .before .before .before .before .before .before .before .before .before .before .before .before .before .before .before .before .start-table in
+returns c = let a = c .before .before .before .before .before .before .before .before .before .before .before .before .before .before .before .before .before .before .before .before .before .before .before .before .before .before .before .before .before .before .before .args in let p = c .before .before .before .before .before .before .before .before .before .before .before .before .before .before .before .before .before .before .before .before .before .before .before .before .before .before .before .before .before .before .before .pre in let t = c .before .before .before .before .before .before .before .before .before .before .before .before .before .before .before .before .start-table in
     has-written (a .s .now) (a .l) (p .0 .0) (a .first) (a .end) (a .out .now) (a .k) (p .0 .3) (t .result) _ (t .ensures .0) (t .ensures .1) (c .before .before .before .before .before .before .before .before .before .before .before .before .before .if1 .taken) _ (c .before .before .before .before .before .before .before .before .write-all .ensures)
 
 same-length-5 : tie.Need-same-length-5
 same-length-5 c = search needs
 
 returns-2 : tie.Need-returns-2
-returns-2 c = let a = c .before .before .before .before .before .before .before .before .before .before .before .before .before .before .before .args in let p = c .before .before .before .before .before .before .before .before .before .before .before .before .before .before .before .pre in let t = c .before .before .before .start-table in
+returns-2 c = let a = c .before .before .before .before .before .before .before .before .before .before .before .before .before .before .before .before .before .before .args in let p = c .before .before .before .before .before .before .before .before .before .before .before .before .before .before .before .before .before .before .pre in let t = c .before .before .before .start-table in
     has-not (a .s .now) (a .l) (p .0 .0) (a .first) (a .end) (a .out .now) (a .k) (p .0 .3) (t .result) _ (t .ensures .0) (t .ensures .1) (c .if1 .left)
 
 pub write-table-spec : {M : Type 1} → statement M
@@ -69,12 +70,12 @@ write-table-spec =
     add-size
     mul-size-2
     add-size-2
-    cast-t26
-    cast-t27
+    cast-t30
+    cast-t31
     start-table-requires
     write-all-requires
-    cast-t40
-    cast-t41
+    cast-t44
+    cast-t45
     same-length
     same-length-2
     same-length-3

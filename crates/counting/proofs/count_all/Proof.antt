@@ -58,7 +58,7 @@ add-d : tie.Need-add-d Inv-loop μ-loop
 add-d c = let b = c .before .before .before .before .before .before .before .before .before .before .before .before .before .loop .inv .counts in omega (arith, b .few, b .within, b .few-roles, c .before .before .before .before .before .before .before .before .before .before .before .before .before .before .before .before .before .before .before .before .before .before .pre .1 .1 .few, c .before .before .before .before .before .before .derive-at .ensures .0 .few)
 
 add-least : tie.Need-add-least Inv-loop μ-loop
-add-least c = let b = c .before .before .before .before .before .before .before .before .before .before .before .before .before .loop .inv .counts in omega (arith, b .few-rows, b .within, b .few-roles, c .before .before .before .before .before .before .before .before .before .before .before .before .before .before .before .before .before .before .before .before .before .pre .1 .1 .few, c .before .before .before .before .before .before .derive-at .ensures .0 .few)
+add-least c = let b = c .before .before .before .before .before .before .before .before .before .before .before .before .before .loop .inv .counts in omega (arith, b .few-rows, b .within, b .few-roles, c .before .before .before .before .before .before .before .before .before .before .before .before .before .before .before .before .before .before .before .before .before .before .pre .1 .1 .few, c .before .before .before .before .before .before .derive-at .ensures .0 .few)
 
 mul-if1 : tie.Need-mul-if1 Inv-loop μ-loop
 mul-if1 c = let b = c .before .before .before .before .before .before .before .before .before .before .before .before .before .loop .inv .counts in omega (arith, b .few, b .within, b .few-roles, c .before .before .before .before .before .before .before .before .before .before .before .before .before .before .before .before .before .before .before .before .before .before .pre .1 .1 .few, c .before .before .before .before .before .before .derive-at .ensures .0 .few)
@@ -67,7 +67,7 @@ add-if1 : tie.Need-add-if1 Inv-loop μ-loop
 add-if1 c = let b = c .before .before .before .before .before .before .before .before .before .before .before .before .before .loop .inv .counts in omega (arith, b .few, b .within, b .few-roles, c .before .before .before .before .before .before .before .before .before .before .before .before .before .before .before .before .before .before .before .before .before .before .pre .1 .1 .few, c .before .before .before .before .before .before .derive-at .ensures .0 .few)
 
 mul-if1-2 : tie.Need-mul-if1-2 Inv-loop μ-loop
-mul-if1-2 c = let b = c .before .before .before .before .before .before .before .before .before .before .before .before .before .loop .inv .counts in omega (arith, b .few-rows, b .within, b .few-roles, c .before .before .before .before .before .before .before .before .before .before .before .before .before .before .before .before .before .before .before .before .before .pre .1 .1 .few, c .before .before .before .before .before .before .derive-at .ensures .0 .few)
+mul-if1-2 c = let b = c .before .before .before .before .before .before .before .before .before .before .before .before .before .loop .inv .counts in omega (arith, b .few-rows, b .within, b .few-roles, c .before .before .before .before .before .before .before .before .before .before .before .before .before .before .before .before .before .before .before .before .before .before .pre .1 .1 .few, c .before .before .before .before .before .before .derive-at .ensures .0 .few)
 
 add-if1-2 : tie.Need-add-if1-2 Inv-loop μ-loop
 add-if1-2 c = let b = c .before .before .before .before .before .before .before .before .before .before .before .before .before .loop .inv .counts in omega (arith, b .few, b .few-rows, b .within, b .few-roles, c .before .before .before .before .before .before .before .before .before .before .before .before .before .before .before .before .before .before .before .before .before .before .pre .1 .1 .few, c .before .before .before .before .before .before .derive-at .ensures .0 .few)
