@@ -32,10 +32,11 @@ fn rewrite_small(
     let mut held = [0u64; 128];
     let mut row = [0u64; 128];
     let mut kinds = [0u16; 128];
+    let mut lens = [0u8; 128];
     let mut masks = [0u32; 128];
     let mut pairs = [0u64; 256];
     let mut marks = [0u16; 129];
-    let mut links = [0u16; 384];
+    let mut links = [0u16; 512];
     area::rewrite_with(
         s,
         l,
@@ -49,11 +50,12 @@ fn rewrite_small(
         &mut held,
         &mut row,
         &mut kinds,
+        &mut lens,
         &mut masks,
         &mut pairs,
         &mut marks,
         &mut links,
-        128,
+        256,
     )
 }
 
@@ -75,10 +77,11 @@ fn rewrite_middle(
     let mut held = [0u64; 513];
     let mut row = [0u64; 513];
     let mut kinds = [0u16; 4096];
+    let mut lens = [0u8; 4096];
     let mut masks = [0u32; 4096];
     let mut pairs = [0u64; 8192];
     let mut marks = [0u16; 4097];
-    let mut links = [0u16; 12288];
+    let mut links = [0u16; 16384];
     area::rewrite_with(
         s,
         l,
@@ -92,11 +95,12 @@ fn rewrite_middle(
         &mut held,
         &mut row,
         &mut kinds,
+        &mut lens,
         &mut masks,
         &mut pairs,
         &mut marks,
         &mut links,
-        4096,
+        8192,
     )
 }
 
@@ -119,10 +123,11 @@ fn rewrite_large(
     let mut held = [0u64; 513];
     let mut row = [0u64; 513];
     let mut kinds = [0u16; 33345];
+    let mut lens = [0u8; 33345];
     let mut masks = [0u32; 33345];
     let mut pairs = [0u64; 66690];
     let mut marks = [0u16; 33346];
-    let mut links = [0u16; 83074];
+    let mut links = [0u16; 93314];
     area::rewrite_with(
         s,
         l,
@@ -136,11 +141,12 @@ fn rewrite_large(
         &mut held,
         &mut row,
         &mut kinds,
+        &mut lens,
         &mut masks,
         &mut pairs,
         &mut marks,
         &mut links,
-        16384,
+        26624,
     )
 }
 
