@@ -38,7 +38,7 @@ pub record Turned (a b u p : ℕ) (t : Turn) : Type 0 where
   pub first : turnsOf a b u p ≡ bit ∷ turnsOf (t .users) (t .permissions) u p
 
 -- the place of the links where the walk that seeks u and p begins, one of w: the high halves and the low halves are spread by four multipliers, and of
--- the square of the sum's middle 14 bits count, scaled to the number of trees; which place it is does not matter to what is promised
+-- the square of the sum's middle 16 bits count, scaled to the number of trees; which place it is does not matter to what is promised
 unfoldable pub bucketOf : ℕ → ℕ → ℕ → ℕ
 bucketOf w u p =
     let y =
