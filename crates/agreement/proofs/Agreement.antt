@@ -7,6 +7,7 @@ use borrow.Author.Tests.{eq-eqb}
 use lib.Dec.{eqb}
 use lib.ListN.{length, take, drop}
 use lib.Seq.{take-at}
+use Rattle.ground.specs.Search.{countOf}
 use Rattle.ground.specs.Outcome.{given}
 use Rattle.ground.proofs.BoolLaws.{pick-true}
 use Rattle.ground.proofs.JudgementLaws.{orElse-zero}
@@ -22,7 +23,7 @@ use Rattle.table.specs.TableBytes.{tableBytes, tableOf}
 use Rattle.table.specs.TableRefusals.{tableJudged}
 use Rattle.derivation.specs.Rewriting.{unjoined, rewrite, sizeOf, rewriteJudged, Written, writtenOf, rewriteOutcome, areaAfter}
 use Rattle.derivation.specs.Meaning.{MeansAt}
-use Rattle.derivation.specs.Untimed.{Untimed, countOf, Rival}
+use Rattle.derivation.specs.Untimed.{Untimed, Rival}
 use Rattle.derivation.proofs.RewritingTheorems.{means, same-answer, fewest}
 use Rattle.derivation.proofs.TableRewritten.{rewritten-accepted, rewritten-read, rewritten-length}
 use Rattle.lent.specs.declared.Kind.the-variants as Kind

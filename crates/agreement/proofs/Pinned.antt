@@ -10,6 +10,7 @@ use mathlib.Core.List.{List}
 use borrow.Author.Tests.{eqb-true}
 use lib.Dec.{eqb}
 use lib.ListN.{length}
+use Rattle.ground.specs.Search.{countOf}
 use Rattle.ground.proofs.BoolLaws.{and-left, and-right}
 use Rattle.endian.specs.Numbers.{Bytes}
 use Rattle.rota.specs.Rota.{Rota}
@@ -19,7 +20,7 @@ use Rattle.table.specs.TableBytes.{tableBytes}
 use Rattle.table_reader.proofs.TableTheorems.{accepted-spelt}
 use Rattle.derivation.specs.Rewriting.{rewrite}
 use Rattle.derivation.specs.Meaning.{EnabledFor}
-use Rattle.derivation.specs.Untimed.{Untimed, onFor, countOf, untimedAt, untimedOf, Rival}
+use Rattle.derivation.specs.Untimed.{Untimed, onFor, untimedAt, untimedOf, Rival}
 use Rattle.derivation.proofs.CountingLaws.{count-single, count-like}
 use Rattle.derivation.proofs.RewritingTheorems.{means}
 use Rattle.agreement.specs.Demand3.{Demand3}

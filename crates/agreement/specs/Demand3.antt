@@ -6,6 +6,7 @@ use mathlib.Core.Path.{_≡_}
 use mathlib.Core.List.{List}
 use lib.Dec.{eqb}
 use lib.ListN.{length}
+use Rattle.ground.specs.Search.{countOf}
 use Rattle.minutes.specs.Minutes.{E}
 use Rattle.rota.specs.Rota.{Rota, policyOf}
 use Rattle.rota.specs.RotaBytes.{rotaOf}
@@ -14,7 +15,7 @@ use Rattle.table.specs.Table.{Entry}
 use Rattle.table.specs.TableBytes.{tableOf}
 use Rattle.table.specs.TableRefusals.{tableJudged}
 use Rattle.derivation.specs.Rewriting.{rewrite}
-use Rattle.derivation.specs.Untimed.{Untimed, countOf, Rival}
+use Rattle.derivation.specs.Untimed.{Untimed, Rival}
 use Rattle.derivation.specs.Meaning.{MeansAt}
 use Rattle.lent.specs.declared.Kind.the-variants as Kind
 use Rattle.machine.specs.Machine.{Call, Run, fresh, machineStep, run}

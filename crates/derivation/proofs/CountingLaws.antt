@@ -13,11 +13,11 @@ use mathlib.Core.Bool.{Bool, true, false}
 use mathlib.Core.List.{List, [], _∷_, List·Memᴰ, List·Memᴰ·head, List·Memᴰ·tail, List·Memᴰ·cases-cons, List·Memᴰ·not-nil, Memᴰ·cast}
 use native.Mathlib.Omega.{arith}
 use lib.ListN.{length, getD}
+use Rattle.ground.specs.Search.{countOf}
 use Rattle.ground.specs.Choice.{pick}
 use Rattle.ground.specs.Sequence.{listOf}
 use Rattle.ground.proofs.BoolLaws.{not-yes}
 use Rattle.ground.proofs.SequenceLaws.{listOf-cons}
-use Rattle.derivation.specs.Untimed.{countOf}
 use Rattle.derivation.proofs.DistinctLaws.{Distinct}
 
 module _ {A : Type 0} (f : A → Bool) where

@@ -12,7 +12,7 @@ use mathlib.Core.List.{List, [], map, List·Memᴰ, List·Memᴰ·not-nil, Mem�
 use lib.Dec.{eqb}
 use lib.ListN.{length}
 use borrow.Author.Tests.{eqb-true}
-use Rattle.ground.specs.Search.{any}
+use Rattle.ground.specs.Search.{any, countOf}
 use Rattle.ground.proofs.SearchLaws.{list-any}
 use Rattle.bitset.specs.Sets.{setOf}
 use Rattle.bitset.proofs.SetLaws.{setOf-same}
@@ -23,7 +23,7 @@ use Rattle.rota.specs.RotaWell.{RotaWell}
 use Rattle.table.specs.Table.{Entry, Table}
 use Rattle.table.specs.Table as table
 use Rattle.derivation.specs.Rewriting.{usersAt, permissionsAt, derivedAt, active, Kept, kept, entriesOf, unjoined}
-use Rattle.derivation.specs.Untimed.{Untimed, onFor, grants, countOf, untimedAt, untimedOf, Rival}
+use Rattle.derivation.specs.Untimed.{Untimed, onFor, grants, untimedAt, untimedOf, Rival}
 use Rattle.derivation.proofs.KeptLaws.{KeptAt, kept-minute}
 use Rattle.derivation.proofs.KeptListLaws.{kept-out}
 use Rattle.derivation.proofs.DistinctLaws.{Distinct, added-out, added-distinct}

@@ -4,6 +4,7 @@
 --     field-find, field-unique       every minute lies in one field, and in no other
 --     fields-distinct, field-count   no field is there twice, so that just one of the list covers a minute
 -- Assumes nothing.
+use Rattle.ground.specs.Search.{countOf}
 use Rattle.ground.proofs.ListLaws.{all-in}
 use Prim.Native.Nat.{ℕ, _+_, _-_, _%_, _≤_, _<_, zero-le}
 use mathlib.Core.Path.{_≡_, refl, sym, ap, ap₂, _∙_}
@@ -19,7 +20,6 @@ use Rattle.rota.specs.RotaWell.{RotaWell}
 use Rattle.rota.specs.Alike.{Alike}
 use Rattle.derivation.specs.Cuts.{Gap, gaps}
 use Rattle.derivation.specs.Rewriting.{eraCuts, cellCuts, fieldOf, fieldsOf, fields}
-use Rattle.derivation.specs.Untimed.{countOf}
 use Rattle.derivation.proofs.TableFields.{FieldWell, fields-well}
 use Rattle.derivation.proofs.CutLaws.{Inside, ordered, find, unique, once}
 use Rattle.derivation.proofs.DistinctLaws.{Distinct, distinct-append, distinct-map}

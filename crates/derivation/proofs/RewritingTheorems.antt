@@ -17,6 +17,7 @@ use mathlib.Core.Option.{none, some}
 use mathlib.Core.List.{List, List·Memᴰ}
 use lib.Dec.{ltb, eqb}
 use lib.ListN.{length}
+use Rattle.ground.specs.Search.{countOf}
 use Rattle.ground.specs.Choice.{pick}
 use Rattle.minutes.specs.Minutes.{E, Window, covers}
 use Rattle.minutes.specs.First.{minuteOf}
@@ -30,7 +31,7 @@ use Rattle.derivation.specs.Rewriting.{fields, derivedAt, active, keptAs
 use Rattle.derivation.specs.Masks.{maskOf, keptIn}
 use Rattle.derivation.specs.Constancy.{SameAt}
 use Rattle.derivation.specs.Worked.{example, field}
-use Rattle.derivation.specs.Untimed.{Untimed, countOf, Rival}
+use Rattle.derivation.specs.Untimed.{Untimed, Rival}
 use Rattle.derivation.specs.Meaning.{Acting, MeansAt}
 use Rattle.derivation.proofs.ConstancyLaws.{alike-users, alike-permissions, alike-active}
 use Rattle.derivation.proofs.FieldLaws.{field-alike, field-find, field-unique, field-count}

@@ -1,12 +1,11 @@
 -- Tables of untimed users and permissions, ours and any other (document 01, "Rewriting", its second paragraph).
-use Prim.Native.Nat.{ℕ, suc, _≤_, _<_}
+use Prim.Native.Nat.{ℕ, _≤_, _<_}
 use mathlib.Core.Path.{_≡_}
 use mathlib.Core.Bool.{Bool, _&&_}
-use mathlib.Core.List.{List, [], _∷_}
+use mathlib.Core.List.{List}
 use lib.Dec.{eqb}
 use lib.ListN.{length}
-use Rattle.ground.specs.Choice.{pick}
-use Rattle.ground.specs.Search.{any}
+use Rattle.ground.specs.Search.{any, countOf}
 use Rattle.ground.specs.Sequence.{listOf}
 use Rattle.bitset.specs.Sets.{has}
 use Rattle.minutes.specs.Minutes.{E}
@@ -26,11 +25,6 @@ onFor r t o = eqb (o .source) r && o .on t
 -- at t such a table grants for role r the pair of u and p
 unfoldable pub grants : List Untimed → ℕ → ℕ → ℕ → ℕ → Bool
 grants os r t u p = any (λ (o : Untimed). onFor r t o && o .user u && o .permission p) os
-
--- how many elements of a list pass
-unfoldable pub countOf {ℓ} : {A : Type ℓ} → (A → Bool) → List A → ℕ
-countOf f [] = 0
-countOf f (x ∷ xs) = pick (f x) (suc (countOf f xs)) (countOf f xs)
 
 -- a table as such a list: its own derived roles, each on when one of its rows enables it
 abbrev pub untimedAt : Table → ℕ → Untimed

@@ -10,6 +10,11 @@ unfoldable pub any {ℓ} : {A : Type ℓ} → (A → Bool) → List A → Bool
 any f [] = false
 any f (x ∷ xs) = f x || any f xs
 
+-- how many elements of a list pass
+unfoldable pub countOf {ℓ} : {A : Type ℓ} → (A → Bool) → List A → ℕ
+countOf f [] = 0
+countOf f (x ∷ xs) = pick (f x) (suc (countOf f xs)) (countOf f xs)
+
 -- some number below n passes
 unfoldable pub anyBelow : ℕ → (ℕ → Bool) → Bool
 anyBelow zero f = false

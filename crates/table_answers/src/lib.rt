@@ -16,7 +16,7 @@ use table::Counts;
 use table::TableAnswer;
 
 // Whether the row at `at` covers minute t, whose phase is x.
-fn row_covers(s: &[u8], at: usize, t: u32, x: u32) -> bool
+pub fn row_covers(s: &[u8], at: usize, t: u32, x: u32) -> bool
     requires { ⌜ (at + 16 ≤ length (now s)) × (x ≡ t % cycleOf (now s)) ⌝ }
     ensures { λ r. ⌜ r ≡ covers (cycleOf (now (s .entry))) (rowAtByte (now (s .entry)) at .window) t ⌝ }
 {
