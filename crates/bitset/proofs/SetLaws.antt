@@ -6,10 +6,11 @@
 --     has-insert .. has-difference        members of each operation
 --     ones-count                          the language's count is the number of members
 --     member-in, member-out               a set given by a test is not empty; some-member: any set that is not empty
+--     insert-self, insert-other           one member more, and one less: remove-self, remove-other, remove-less
 --     setOf-none, turn-in, turn-out       a loop that gathers a set; setOf-more: one number more, whichever way it goes
 -- Assumes nothing.
 use mathlib.Core.Path.{_≡_, refl, sym, ap, ap₂, _∙_, subst}
-use mathlib.Core.Bool.{Bool, true, false, _&&_, _||_, not, or-true, or-false}
+use mathlib.Core.Bool.{Bool, true, false, _&&_, _||_, not, or-true, or-false, and-true, and-false}
 use Prim.Native.Nat.{ℕ, zero, suc, _+_, _-_, _*_, _/_, _%_, _^_, _≤_, _<_}
 use native.Mathlib.Nat.{mod-lt, lt-of-le-of-lt, lt-of-lt-of-le, zero-lt-suc, not-suc-le-zero, one-mul, div-one, div-add-mod', div-eq-of-lt}
 use native.Mathlib.Numerals.{one-add}
@@ -396,3 +397,16 @@ insert-self x i l = rw (has-insert x i i l, eq-eqb i i refl) (or-true (has x i))
 
 pub insert-other : (x i j : ℕ) → j < 64 → (j ≡ i → ⊥) → has (insert x i) j ≡ has x j
 insert-other x i j l ne = rw (has-insert x i j l, ne-eqb j i ne) (or-false (has x j))
+
+-- ---- one member less
+pub remove-self : (x i : ℕ) → i < 64 → has (remove x i) i ≡ false
+remove-self x i l = rw (has-remove x i i l, eq-eqb i i refl) (and-false (has x i))
+
+pub remove-other : (x i j : ℕ) → j < 64 → (j ≡ i → ⊥) → has (remove x i) j ≡ has x j
+remove-other x i j l ne = rw (has-remove x i j l, ne-eqb j i ne) (and-true (has x j))
+
+pub remove-less : (x i : ℕ) → x < 2 ^ 64 → i < 64 → has x i ≡ true → remove x i < x
+remove-less x i h l m =
+    let most : remove x i ≤ x = rw (← (remove-is x i h l)) (and-le-l x _) in
+    let other : remove x i ≡ x → ⊥ = λ e. clash (has x i) m (ap (λ (y : ℕ). has y i) (sym e) ∙ remove-self x i l) in
+    omega arith

@@ -32,9 +32,13 @@ pub record Shown : Type 0 where
   pub rows : ℕ
   pub permissions : List ℕ
 
+-- the board of a table at t
+abbrev pub shownAt : Table → ℕ → Shown
+shownAt τ t = record { rows = rowsAt τ t; permissions = boardOf (policyOf τ) t }
+
 -- the table's refusal, then 33, then the board
 unfoldable pub boardOutcome : List ℕ → ℕ → Outcome Shown
-boardOutcome s t = outcome (tableJudged s orElse refuse 33 (leb E t)) (record { rows = rowsAt (tableOf s) t; permissions = boardOf (policyOf (tableOf s)) t })
+boardOutcome s t = outcome (tableJudged s orElse refuse 33 (leb E t)) (shownAt (tableOf s) t)
 
 -- as a struct: where refused, all else is 0
 abbrev pub boardTold : Outcome Shown → Board

@@ -1,6 +1,12 @@
 // The staff board: for one minute, from a table in one pass, the permissions of every user and the number of rows that enable their derived role then.
 ghost use mathlib.Core.Path.{_≡_};
-ghost use Rattle.board.specs.Board.{boardTold, boardOutcome};
+ghost use lib.ListN.{length};
+ghost use Rattle.ground.specs.Outcome.{given};
+ghost use Rattle.ground.specs.Outcome as Outcome;
+ghost use Rattle.table.specs.TableBytes.{tableOf};
+ghost use Rattle.table.specs.Inside.{Opened};
+ghost use Rattle.board.specs.Board.{shownAt, boardTold, boardOutcome};
+ghost use Rattle.board.specs.Rows.{added};
 use table::Counts;
 use table::TableAnswer;
 
@@ -13,11 +19,70 @@ pub struct Board {
 }
 
 fn refused(code: u8) -> Board
-    ensures { λ r. ⌜ r ≡ boardTold (Rattle.ground.specs.Outcome.refused code) ⌝ }
+    ensures { λ r. ⌜ r ≡ boardTold (Outcome.refused code) ⌝ }
 {
     Board {
         refusal: code as u32,
         rows: 0,
         rights: [0u64; 64],
+    }
+}
+
+// Adds permissions to the sets of users, from the lowest user on. (A lent array does not tell its length, so that the contract asks it.)
+fn add(rights: &mut [u64; 64], users: u64, permissions: u64)
+    requires { ⌜ length (now rights) ≡ 64 ⌝ }
+    ensures { λ _. ⌜ now (rights .exit) ≡ added (now (rights .entry)) users permissions ⌝ }
+{
+    let mut rest = users;
+    while rest != 0 {
+        let u = bitset::lowest(rest);
+        let i = u as usize;
+        let had = rights[i];
+        rights[i] = bitset::either(had, permissions);
+        rest = bitset::without(rest, u);
+    }
+}
+
+// The board of an accepted table: each row that covers the minute counts, and adds the permissions of its entry.
+fn board_in(s: &[u8], n: Counts, t: u32) -> Board
+    requires { ⌜ Opened (now s) n ⌝ }
+    ensures { λ r. ⌜ r ≡ boardTold (given (shownAt (tableOf (now (s .entry))) t)) ⌝ }
+{
+    let first = 16 + 17 * (n.derived as usize);
+    let all = n.rows as usize;
+    let x = minutes::phase(n.cycle, t);
+    let mut rights = [0u64; 64];
+    let mut rows: u32 = 0;
+    let mut i = 0;
+    while i < all {
+        let at = first + 16 * i;
+        if table_answers::row_covers(s, at, t, x) {
+            let e = table_answers::entry_place(s, at);
+            let users = endian::read64(s, e + 1);
+            let permissions = endian::read64(s, e + 9);
+            add(&mut rights, users, permissions);
+            rows += 1;
+        }
+        i += 1;
+    }
+    Board {
+        refusal: 0,
+        rows,
+        rights,
+    }
+}
+
+// The board of minute t: the table's refusal, 33, or the board.
+pub fn board_at(s: &[u8], t: u32) -> Board
+    ensures { λ r. ⌜ r ≡ boardTold (boardOutcome (now (s .entry)) t) ⌝ }
+{
+    match table_reader::read(s) {
+        TableAnswer::Refused(code) => refused(code),
+        TableAnswer::Accepted(n) => {
+            if minutes::END <= t {
+                return refused(33);
+            }
+            board_in(s, n, t)
+        }
     }
 }

@@ -3,20 +3,20 @@
 --     any-turn, any-same              one turn, whatever the test says; tests that agree below the bound
 --     any-split, any-blocks           a search in two parts, and block by block
 --     any-out, any-no, any-none-of    a number that passes; none does
---     list-any                        some element of a list given by index
+--     list-any, list-count            some element of a list given by index, and how many; count-none, count-turn, count-most: how many numbers
 --     lowest-is, lowest-none, lowest-some, lowest-out, lowest-no    the lowest number that passes, and where there is none
 -- Assumes nothing.
-use Prim.Native.Nat.{ℕ, zero, suc, _+_, _*_, _<_}
+use Prim.Native.Nat.{ℕ, zero, suc, _+_, _*_, _≤_, _<_}
 use mathlib.Core.Path.{_≡_, refl, sym, ap, ap₂, _∙_}
 use mathlib.Core.Logic.{⊎-elim}
 use mathlib.Core.Bool.{Bool, true, false, _||_, or-true, or-false, or-assoc}
 use mathlib.Core.Option.{Option, none, some}
 use mathlib.Core.List.{List, [], _∷_, _++_}
-use native.Mathlib.Nat.{add-zero, add-suc, mul-zero, mul-suc, not-suc-le-zero, le-of-suc-le-suc, eq-or-lt-of-le, le-refl, lt-trans}
+use native.Mathlib.Nat.{add-zero, zero-add, add-suc, mul-zero, mul-suc, not-suc-le-zero, le-of-suc-le-suc, eq-or-lt-of-le, le-refl, lt-trans}
 use native.Mathlib.Numerals.{add-one}
 use native.Mathlib.Omega.{arith}
 use Rattle.ground.specs.Choice.{pick}
-use Rattle.ground.specs.Search.{any, anyBelow, firstOf, lowestBelow}
+use Rattle.ground.specs.Search.{any, countOf, anyBelow, firstOf, lowestBelow, one, countBelow}
 use Rattle.ground.specs.Sequence.{listOf}
 use Rattle.ground.proofs.BoolLaws.{pick-true, pick-false, not-yes, clash}
 
@@ -69,6 +69,43 @@ unfolding any anyBelow listOf
 list-any f zero g = refl
 list-any f (suc n) g =
     any-append f (listOf n g) (g n ∷ []) ∙ ap₂ _||_ (list-any f n g) (or-false (f (g n)))
+
+-- how many elements and how many numbers pass
+pub count-append {ℓ} : {A : Type ℓ} (f : A → Bool) (l m : List A) → countOf f (l ++ m) ≡ countOf f l + countOf f m
+unfolding countOf
+count-append f [] m = sym (zero-add (countOf f m))
+count-append f (x ∷ l) m = go (f x) (countOf f l) (countOf f m) (count-append f l m)
+  where
+    go : (b : Bool) (c d : ℕ) {a : ℕ} → a ≡ c + d → pick b (suc a) a ≡ pick b (suc c) c + d
+    go true c d e = omega arith
+    go false c d e = e
+
+pub list-count {ℓ} : {A : Type ℓ} (f : A → Bool) (n : ℕ) (g : ℕ → A) → countOf f (listOf n g) ≡ countBelow n (λ i. f (g i))
+unfolding countOf countBelow listOf
+list-count f zero g = refl
+list-count f (suc n) g = count-append f (listOf n g) (g n ∷ []) ∙ ap₂ _+_ (list-count f n g) (go (f (g n)))
+  where
+    go : (b : Bool) → pick b 1 0 ≡ one b
+    go true = refl
+    go false = refl
+
+module _ (f : ℕ → Bool) where
+  pub count-none : 0 ≡ countBelow 0 f
+  unfolding countBelow
+  count-none = refl
+
+  pub count-turn : (i : ℕ) → countBelow (i + 1) f ≡ countBelow i f + one (f i)
+  unfolding countBelow
+  count-turn i = rw (add-one i)
+
+  pub count-most : (n : ℕ) → countBelow n f ≤ n
+  unfolding countBelow
+  count-most zero = omega arith
+  count-most (suc n) = go (f n) (count-most n)
+    where
+      go : (b : Bool) → countBelow n f ≤ n → countBelow n f + one b ≤ suc n
+      go true h = omega arith
+      go false h = omega arith
 
 pub any-out : (n : ℕ) (f : ℕ → Bool) → anyBelow n f ≡ true → (i : ℕ) × (i < n) × (f i ≡ true)
 unfolding anyBelow

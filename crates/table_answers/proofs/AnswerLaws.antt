@@ -1,9 +1,10 @@
 -- The answer of an accepted table by its rows: the first row that grants has the lowest source role.
 --     row-inside                     where rows and their entries lie
 --     grant-through, through-grant   a role answers exactly when a row of it grants
+--     yes-grants                     the answer is yes exactly when a row grants
 --     first-grants, none-grants      the answer, by the first row that grants
 -- Assumes nothing.
-use Rattle.ground.proofs.BoolLaws.{lt-or-le, and-yes, and-both, and-three, clash, not-yes}
+use Rattle.ground.proofs.BoolLaws.{lt-or-le, and-yes, and-both, and-three, clash, not-yes, eq-ext}
 use Prim.Native.Nat.{ℕ, _+_, _*_, _%_, _≤_, _<_}
 use mathlib.Core.Path.{_≡_, refl, sym, _∙_, ap}
 use mathlib.Core.Logic.{⊎-elim}
@@ -21,6 +22,8 @@ use Rattle.ground.proofs.SequenceLaws.{listOf-length, get-listOf}
 use Rattle.endian.specs.Numbers.{u8At, u32At}
 use Rattle.bitset.specs.Sets.{has}
 use Rattle.minutes.specs.Minutes.{covers}
+use Rattle.policy.specs.Policy.{isYes}
+use Rattle.policy.proofs.PolicyLaws.{yes-is}
 use Rattle.table.specs.Table.{Entry, Row, noEntry, entryAt, enabled, through, answer}
 use Rattle.table.specs.TableBytes.{cycleOf, derivedOf, rowsOf, entryOf, rowOf, tableOf}
 use Rattle.table.specs.TableRefusals.{sourceOf}
@@ -117,6 +120,16 @@ module _ (s : List ℕ) (f : TableFine s) (u p t : ℕ) where
         granted = grant-of s u p t (k .0) (k1 .1) (rw i (h2 .2)) (rw i (h1 .1));
         source = ap (λ (j : ℕ). entryOf s j .source) i ∙ eqb-true (x .source) r (h2 .0);
       }
+
+  -- the answer is yes exactly when a row grants
+  pub yes-grants : isYes (answer (tableOf s) u p t) ≡ anyBelow (rowsOf s) (grants s u p t)
+  unfolding answer tableOf
+  yes-grants =
+      yes-is _ _
+      ∙ eq-ext _ _
+      (λ h. let r = any-out _ _ h in let k = through-grant (r .0) (r .2) in any-stop _ _ (k .row) (k .below) (k .granted))
+      (λ h. let k = any-out _ _ h in
+      any-stop _ _ (sourceOf s (k .0)) (f .entries _ (f .rows (k .0) (k .1) .alone .derived) .source) (grant-through (k .0) (k .1) (k .2)))
 
   module _ (i : ℕ) (l : i < rowsOf s) (g : grants s u p t i ≡ true) (before : (k : ℕ) → k < i → grants s u p t k ≡ false) where
     lower : (j : ℕ) → j < sourceOf s i → through (tableOf s) u p t j ≡ true → ⊥

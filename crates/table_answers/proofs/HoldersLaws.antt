@@ -19,16 +19,14 @@ use Rattle.bitset.specs.Sets.{has, setOf, union}
 use Rattle.bitset.proofs.SetLaws.{has-none, has-past, has-below, has-setOf, setOf-lt, some-member, ext}
 use Rattle.bitset.proofs.GatherLaws.{gather-start, gather-union}
 use Rattle.policy.specs.Policy.{holdsAny, holdersAt}
-use Rattle.policy.proofs.PolicyLaws.{yes-is}
-use Rattle.table.specs.Table.{answer, policyOf}
+use Rattle.table.specs.Table.{policyOf}
 use Rattle.table.specs.TableBytes.{usersOf, rowsOf, rowOf, tableOf}
-use Rattle.table.specs.TableRefusals.{sourceOf}
 use Rattle.table.specs.Inside.{Opened}
 use Rattle.table_answers.specs.Grants.{rowUsers}
 use Rattle.table.specs.declared.Counts.{Counts}
 use Rattle.table.proofs.HeaderLaws.{counts-are}
 use Rattle.table.proofs.FineLaws.{TableFine, table-fine}
-use Rattle.table_answers.proofs.AnswerLaws.{rowPlace, covering, owned, grant-parts, grant-of, grant-through, through-grant}
+use Rattle.table_answers.proofs.AnswerLaws.{rowPlace, covering, owned, grant-parts, grant-of, yes-grants}
 
 -- user u is among the users of row i, which covers t
 abbrev pub rowHas : List ℕ → ℕ → ℕ → ℕ → Bool
@@ -52,24 +50,22 @@ module _ (s : List ℕ) (f : TableFine s) (t : ℕ) where
       go false h = pow-pos (usersOf s)
 
   holds-row : (u : ℕ) → holdsAny (policyOf (tableOf s)) t u ≡ true → anyBelow (rowsOf s) (rowHas s t u) ≡ true
-  unfolding holdsAny answer
+  unfolding holdsAny
   holds-row u h =
       let p = any-out _ _ h in
-      let r = any-out _ _ (sym (yes-is _ _) ∙ p .2) in
-      let k = through-grant s f u (p .0) t (r .0) (r .2) in
-      let g = grant-parts s u (p .0) t (k .row) (k .granted) in
-      any-stop _ _ (k .row) (k .below) (row-has u (k .row) ∙ and-both (covering s t (k .row)) (has (owned s (k .row) .users) u) (g .0) (g .1))
+      let k = any-out _ _ (sym (yes-grants s f u (p .0) t) ∙ p .2) in
+      let g = grant-parts s u (p .0) t (k .0) (k .2) in
+      any-stop _ _ (k .0) (k .1) (row-has u (k .0) ∙ and-both (covering s t (k .0)) (has (owned s (k .0) .users) u) (g .0) (g .1))
 
   row-holds : (u : ℕ) → anyBelow (rowsOf s) (rowHas s t u) ≡ true → holdsAny (policyOf (tableOf s)) t u ≡ true
-  unfolding holdsAny answer tableOf
+  unfolding holdsAny tableOf
   row-holds u h =
       let w = any-out _ _ h in
       let k = w .0 in
       let c = and-yes (covering s t k) (has (owned s k .users) u) (sym (row-has u k) ∙ w .2) in
       let e = f .entries _ (f .rows k (w .1) .alone .derived) in
       let p = any-out _ _ (some-member _ _ (e .some-permission) (e .permissions-below)) in
-      let g = grant-of s u (p .0) t k (c .0) (c .1) (p .2) in
-      any-stop _ _ (p .0) (p .1) (yes-is _ _ ∙ any-stop _ _ (sourceOf s k) (e .source) (grant-through s f u (p .0) t k (w .1) g))
+      any-stop _ _ (p .0) (p .1) (yes-grants s f u (p .0) t ∙ any-stop _ _ k (w .1) (grant-of s u (p .0) t k (c .0) (c .1) (p .2)))
 
   pub holds-is : (u : ℕ) → holdsAny (policyOf (tableOf s)) t u ≡ anyBelow (rowsOf s) (rowHas s t u)
   holds-is u = eq-ext _ _ (holds-row u) (row-holds u)

@@ -2,18 +2,17 @@
 -- Assumes nothing.
 use Prim.Native.Nat.{ℕ, zero, suc, _+_, _*_, _/_, _%_, _^_, _≤_, _<_}
 use mathlib.Core.Path.{_≡_, refl, sym, _∙_, ap, ap₂}
-use mathlib.Core.Bool.{Bool, true, false, not, _&&_, and-false, and-true}
+use mathlib.Core.Bool.{Bool, true, false}
 use mathlib.Core.List.{List, [], _∷_, _++_}
 use native.Mathlib.Nat.{mod-lt, mul-comm, mul-lt-mul-of-pos-right, mul-le-mul, lt-of-lt-of-le, lt-of-le-of-lt, le-of-lt, le-of-eq, div-lt-iff-lt-mul}
 use native.Mathlib.Omega.{arith}
 use lib.ListN.{length, take, drop, length-append}
 use lib.Seq.{take-at, drop-at}
-use borrow.Author.Tests.{eq-eqb, ne-eqb}
 use Rattle.ground.specs.Choice.{pick}
 use Rattle.ground.specs.Search.{one, countBelow}
 use Rattle.ground.proofs.BoolLaws.{clash, eq-ext}
 use Rattle.bitset.specs.Sets.{has, remove, count, Lowest}
-use Rattle.bitset.proofs.SetLaws.{count-low, ext, has-none, has-remove}
+use Rattle.bitset.proofs.SetLaws.{count-low, ext, has-none, remove-self, remove-other}
 use Rattle.trees.specs.Tree.{answers, turnsOf, Turned, bucketOf, Within}
 
 -- ---- what is said of the numbers that pass
@@ -117,15 +116,9 @@ turns-length a b u p =
 
 -- the lowest member of a set, taken away
 module _ (a i : ℕ) (low : Lowest a i) (h : i < 64) where
-  without-it : has (remove a i) i ≡ false
-  without-it = has-remove a i i h ∙ ap (λ (t : Bool). has a i && not t) (eq-eqb i i refl) ∙ and-false (has a i)
-
-  with-others : (j : ℕ) → j < 64 → (j ≡ i → ⊥) → has (remove a i) j ≡ has a j
-  with-others j l ne = has-remove a i j l ∙ ap (λ (t : Bool). has a j && not t) (ne-eqb j i ne) ∙ and-true (has a j)
-
   answers-take : (x r : ℕ) → r ≡ remove a i → answers 64 (has a) (has x) ≡ has x i ∷ answers 64 (has r) (has x)
   answers-take x r e =
-      answers-first 64 (has a) (has (remove a i)) (has x) i h (low .member) (low .below) without-it with-others
+      answers-first 64 (has a) (has (remove a i)) (has x) i h (low .member) (low .below) (remove-self a i h) (remove-other a i)
       ∙ ap (λ (z : ℕ). has x i ∷ answers 64 (has z) (has x)) (sym e)
 
 module _ (a b u p i r s : ℕ) where

@@ -1,0 +1,4 @@
+pub mod AddLaws
+pub mod RowLaws
+pub mod ToldLaws
+pub mod BoardLaws
