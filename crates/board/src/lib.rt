@@ -49,13 +49,13 @@ fn board_in(s: &[u8], n: Counts, t: u32) -> Board
     ensures { λ r. ⌜ r ≡ boardTold (given (shownAt (tableOf (now (s .entry))) t)) ⌝ }
 {
     let first = 16 + 17 * (n.derived as usize);
-    let all = n.rows as usize;
+    let all = n.rows;
     let x = minutes::phase(n.cycle, t);
     let mut rights = [0u64; 64];
     let mut rows: u32 = 0;
-    let mut i = 0;
+    let mut i: u32 = 0;
     while i < all {
-        let at = first + 16 * i;
+        let at = first + 16 * (i as usize);
         if table_answers::row_covers(s, at, t, x) {
             let e = table_answers::entry_place(s, at);
             let users = endian::read64(s, e + 1);

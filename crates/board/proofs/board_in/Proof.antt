@@ -27,40 +27,40 @@ mul-first c = search needs
 add-first : tie.Need-add-first Inv-loop μ-loop
 add-first c = search needs
 
-cast-all : tie.Need-cast-all Inv-loop μ-loop
-cast-all c = search needs
-
 phase-requires : tie.Need-phase-requires Inv-loop μ-loop
-phase-requires c κs = laid _ _ (opened-header _ _ (c .before .before .before .pre)) .cycle-some
+phase-requires c κs = laid _ _ (opened-header _ _ (c .before .before .pre)) .cycle-some
 
 loop-holds : tie.Need-loop-holds Inv-loop μ-loop
 loop-holds c = (search needs, gathered-none _ _ _)
 
+cast-at : tie.Need-cast-at Inv-loop μ-loop
+cast-at c = search needs
+
 mul-at : tie.Need-mul-at Inv-loop μ-loop
-mul-at c = omega (arith, laid _ _ (opened-header _ _ (c .before .before .before .before .before .before .pre)) .whole)
+mul-at c = omega (arith, laid _ _ (opened-header _ _ (c .before .before .before .before .before .pre)) .whole)
 
 add-at : tie.Need-add-at Inv-loop μ-loop
-add-at c = omega (arith, laid _ _ (opened-header _ _ (c .before .before .before .before .before .before .pre)) .whole)
+add-at c = omega (arith, laid _ _ (opened-header _ _ (c .before .before .before .before .before .pre)) .whole)
 
 row-covers-requires : tie.Need-row-covers-requires Inv-loop μ-loop
 row-covers-requires c κs =
-    let o = c .before .before .before .before .before .before .pre in
+    let o = c .before .before .before .before .before .pre in
     (row-inside _ _ o _ (c .loop-test .taken) .row, phase-is _ _ o _ _ (c .before .before .phase .ensures))
 
 entry-place-requires : tie.Need-entry-place-requires Inv-loop μ-loop
-entry-place-requires c κs = row-inside _ _ (c .before .before .before .before .before .before .before .before .pre) _ (c .before .before .loop-test .taken) .row
+entry-place-requires c κs = row-inside _ _ (c .before .before .before .before .before .before .before .pre) _ (c .before .before .loop-test .taken) .row
 
 add-read64 : tie.Need-add-read64 Inv-loop μ-loop
-add-read64 c = omega (arith, row-inside _ _ (c .before .before .before .before .before .before .before .before .before .pre) _ (c .before .before .before .loop-test .taken) .entry, c .before .before .before .before .before .before .before .before .before .good)
+add-read64 c = omega (arith, row-inside _ _ (c .before .before .before .before .before .before .before .before .pre) _ (c .before .before .before .loop-test .taken) .entry, c .before .before .before .before .before .before .before .before .good)
 
 read64-requires : tie.Need-read64-requires Inv-loop μ-loop
-read64-requires c κs = omega (arith, row-inside _ _ (c .before .before .before .before .before .before .before .before .before .pre) _ (c .before .before .before .loop-test .taken) .entry)
+read64-requires c κs = omega (arith, row-inside _ _ (c .before .before .before .before .before .before .before .before .pre) _ (c .before .before .before .loop-test .taken) .entry)
 
 add-read64-2 : tie.Need-add-read64-2 Inv-loop μ-loop
-add-read64-2 c = omega (arith, row-inside _ _ (c .before .before .before .before .before .before .before .before .before .before .pre) _ (c .before .before .before .before .loop-test .taken) .entry, c .before .before .before .before .before .before .before .before .before .before .good)
+add-read64-2 c = omega (arith, row-inside _ _ (c .before .before .before .before .before .before .before .before .before .pre) _ (c .before .before .before .before .loop-test .taken) .entry, c .before .before .before .before .before .before .before .before .before .good)
 
 read64-requires-2 : tie.Need-read64-requires-2 Inv-loop μ-loop
-read64-requires-2 c κs = omega (arith, row-inside _ _ (c .before .before .before .before .before .before .before .before .before .before .pre) _ (c .before .before .before .before .loop-test .taken) .entry)
+read64-requires-2 c κs = omega (arith, row-inside _ _ (c .before .before .before .before .before .before .before .before .before .pre) _ (c .before .before .before .before .loop-test .taken) .entry)
 
 add-requires : tie.Need-add-requires Inv-loop μ-loop
 add-requires c κs = gathered-length _ _ _ _ _ _ (c .before .before .before .before .before .before .before .loop .inv .1)
@@ -86,7 +86,7 @@ loop-again c =
 returns : tie.Need-returns Inv-loop μ-loop
 returns c =
     let l = c .before .loop in
-    let e = gathered-all _ _ (c .before .before .before .before .before .before .pre) _ _ _ _ (le-antisymm (l .inv .0) (c .loop-test .left)) (l .inv .1) in
+    let e = gathered-all _ _ (c .before .before .before .before .before .pre) _ _ _ _ (le-antisymm (l .inv .0) (c .loop-test .left)) (l .inv .1) in
     rw (e .0, e .1) refl
 
 pub board-in-spec : {M : Type 1} → statement M
@@ -98,9 +98,9 @@ board-in-spec =
     cast-first
     mul-first
     add-first
-    cast-all
     phase-requires
     loop-holds
+    cast-at
     mul-at
     add-at
     row-covers-requires
