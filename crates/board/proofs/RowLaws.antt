@@ -1,5 +1,5 @@
 -- The board by the rows of an accepted table: what the loop has after some of them, and that after all of them it has the board.
---     row-grants                                            the board's sets by the rows that grant
+--     shown-has                                                 the board's sets by the rows that grant; past-users: none does past the users
 --     gathered-none, gathered-in, gathered-out, gathered-all    the loop: no row, a row that covers the minute, one that does not, every row
 -- Assumes nothing.
 use Prim.Native.Nat.{ℕ, _+_, _*_, _^_, _≤_, _<_}
@@ -12,6 +12,7 @@ use lib.ListN.{length, getD, replicate, getD-replicate}
 use lib.Pow.{pow-pos}
 use borrow.Author.Tests.{ltb-false}
 use Rattle.ground.specs.Choice.{pick}
+use Rattle.ground.specs.Outcome.{given}
 use Rattle.ground.specs.Search.{anyBelow, one, countBelow}
 use Rattle.ground.specs.Sequence.{listOf}
 use Rattle.ground.proofs.BoolLaws.{clash, not-yes}
@@ -24,7 +25,7 @@ use Rattle.bitset.proofs.GatherLaws.{gather-start, gather-union}
 use Rattle.minutes.specs.Minutes.{covers}
 use Rattle.policy.specs.Policy.{isYes}
 use Rattle.table.specs.Table.{Row, answer, policyOf}
-use Rattle.table.specs.TableBytes.{cycleOf, usersOf, permissionsOf, rowsOf, rowAtByte, rowOf, tableOf}
+use Rattle.table.specs.TableBytes.{cycleOf, usersOf, permissionsOf, derivedOf, rowsOf, rowAtByte, rowOf, tableOf}
 use Rattle.table.specs.Inside.{Opened}
 use Rattle.table.specs.declared.Counts.{Counts}
 use Rattle.table.proofs.HeaderLaws.{counts-are}
@@ -32,8 +33,9 @@ use Rattle.table.proofs.FineLaws.{TableFine, table-fine}
 use Rattle.table_answers.specs.Grants.{rowGrants}
 use Rattle.table_answers.proofs.GrantLaws.{grants-out, grants-no, grants-by}
 use Rattle.table_answers.proofs.AnswerLaws.{grants, grant-parts, yes-grants}
-use Rattle.board.specs.Board.{permissionsAt, boardOf, rowsAt}
+use Rattle.board.specs.Board.{permissionsAt, boardOf, rowsAt, shownAt, boardTold}
 use Rattle.board.specs.Rows.{added}
+use Rattle.board.specs.declared.Board.{Board}
 
 -- ---- an accepted table
 
@@ -138,13 +140,16 @@ module _ (s : List ℕ) (t first : ℕ) where
       gathered-in = record { sets = listOf-same 64 _ _ one-user; count = counted true h }
 
 -- every row
-module _ (s : List ℕ) (n : Counts) (o : Opened s n) (t : ℕ) where
-  pub gathered-all : (i : ℕ) (rights : List ℕ) (rows : ℕ) → i ≡ n .rows → Gathered s t (16 + 17 * n .derived) i rights rows
-      → (rows ≡ rowsAt (tableOf s) t) × (rights ≡ boardOf (policyOf (tableOf s)) t)
+module _ (s : List ℕ) (n : Counts) (o : Opened s n) (t i : ℕ) (rights : List ℕ) (rows : ℕ) (ei : i ≡ n .rows)
+    (g : Gathered s t (16 + 17 * n .derived) i rights rows) where
+  whole : Gathered s t (16 + 17 * derivedOf s) (rowsOf s) rights rows
+  whole = let e = counts-are s n (o .counts) in rw (ei, e .derived, e .rows) at g
+
+  rows-are : rows ≡ rowsAt (tableOf s) t
   unfolding rowsAt tableOf rowOf
-  gathered-all i rights rows ei g =
-      let e = counts-are s n (o .counts) in
-      let z = rw (ei, e .derived, e .rows) at g in (
-        z .count ∙ sym (list-count (λ (w : Row). covers (cycleOf s) (w .window) t) (rowsOf s) (rowOf s)),
-        z .sets ∙ board-is s (table-fine s (o .clear)) t,
-      )
+  rows-are = whole .count ∙ sym (list-count (λ (w : Row). covers (cycleOf s) (w .window) t) (rowsOf s) (rowOf s))
+
+  pub gathered-all : _≡_ {A = Board} (record { refusal = 0; rows = rows; rights = rights }) (boardTold (given (shownAt (tableOf s) t)))
+  gathered-all =
+      ap₂ (λ (x : ℕ) (y : List ℕ). record { refusal = 0; rows = x; rights = y }) rows-are
+      (whole .sets ∙ board-is s (table-fine s (o .clear)) t)

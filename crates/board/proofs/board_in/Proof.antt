@@ -1,6 +1,6 @@
 -- The rows so far that cover the minute are counted, and the permissions of their entries are with their users.
 use Prim.Native.Nat.{_≤_, _-_}
-use mathlib.Core.Path.{refl, _∙_}
+use mathlib.Core.Path.{_∙_}
 use mathlib.Core.Logic.{⊎-elim}
 use native.Mathlib.Omega.{arith}
 use native.Mathlib.Nat.{le-antisymm}
@@ -86,8 +86,7 @@ loop-again c =
 returns : tie.Need-returns Inv-loop μ-loop
 returns c =
     let l = c .before .loop in
-    let e = gathered-all _ _ (c .before .before .before .before .before .pre) _ _ _ _ (le-antisymm (l .inv .0) (c .loop-test .left)) (l .inv .1) in
-    rw (e .0, e .1) refl
+    gathered-all _ _ (c .before .before .before .before .before .pre) _ _ _ _ (le-antisymm (l .inv .0) (c .loop-test .left)) (l .inv .1)
 
 pub board-in-spec : {M : Type 1} → statement M
 board-in-spec =
