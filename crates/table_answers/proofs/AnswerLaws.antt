@@ -1,7 +1,7 @@
 -- The answer of an accepted table by its rows: the first row that grants has the lowest source role.
 --     row-inside                     where rows and their entries lie
 --     grant-through, through-grant   a role answers exactly when a row of it grants
---     yes-grants                     the answer is yes exactly when a row grants
+--     by-rows, yes-grants            some role answers, and the answer is yes, exactly when a row grants
 --     first-grants, none-grants      the answer, by the first row that grants
 -- Assumes nothing.
 use Rattle.ground.proofs.BoolLaws.{lt-or-le, and-yes, and-both, and-three, clash, not-yes, eq-ext}
@@ -25,7 +25,7 @@ use Rattle.minutes.specs.Minutes.{covers}
 use Rattle.policy.specs.Policy.{isYes}
 use Rattle.policy.proofs.PolicyLaws.{yes-is}
 use Rattle.table.specs.Table.{Entry, Row, noEntry, entryAt, enabled, through, answer}
-use Rattle.table.specs.TableBytes.{cycleOf, derivedOf, rowsOf, entryOf, rowOf, tableOf}
+use Rattle.table.specs.TableBytes.{cycleOf, rolesOf, derivedOf, rowsOf, entryOf, rowOf, tableOf}
 use Rattle.table.specs.TableRefusals.{sourceOf}
 use Rattle.table.specs.Inside.{Opened}
 use Rattle.table_answers.specs.Grants.{RowInside, rowGrants}
@@ -121,15 +121,26 @@ module _ (s : List ℕ) (f : TableFine s) (u p t : ℕ) where
         source = ap (λ (j : ℕ). entryOf s j .source) i ∙ eqb-true (x .source) r (h2 .0);
       }
 
+  -- a role below `below` answers exactly when a row of one grants, which g says
+  pub by-rows : (below : ℕ) (g : ℕ → Bool) → ((k : ℕ) → sourceOf s k < below → grants s u p t k ≡ true → g k ≡ true)
+      → ((k : ℕ) → k < rowsOf s → g k ≡ true → (sourceOf s k < below) × (grants s u p t k ≡ true))
+      → anyBelow below (through (tableOf s) u p t) ≡ anyBelow (rowsOf s) g
+  by-rows below g into out =
+      eq-ext _ _
+      (λ h.
+      let r = any-out _ _ h in
+      let k = through-grant (r .0) (r .2) in
+      any-stop _ _ (k .row) (k .below) (into (k .row) (rw (k .source) (r .1)) (k .granted)))
+      (λ h.
+      let k = any-out _ _ h in
+      let z = out (k .0) (k .1) (k .2) in
+      any-stop _ _ (sourceOf s (k .0)) (z .0) (grant-through (k .0) (k .1) (z .1)))
+
   -- the answer is yes exactly when a row grants
   pub yes-grants : isYes (answer (tableOf s) u p t) ≡ anyBelow (rowsOf s) (grants s u p t)
   unfolding answer tableOf
   yes-grants =
-      yes-is _ _
-      ∙ eq-ext _ _
-      (λ h. let r = any-out _ _ h in let k = through-grant (r .0) (r .2) in any-stop _ _ (k .row) (k .below) (k .granted))
-      (λ h. let k = any-out _ _ h in
-      any-stop _ _ (sourceOf s (k .0)) (f .entries _ (f .rows (k .0) (k .1) .alone .derived) .source) (grant-through (k .0) (k .1) (k .2)))
+      yes-is _ _ ∙ by-rows (rolesOf s) (grants s u p t) (λ k l g. g) (λ k l g. (f .entries _ (f .rows k l .alone .derived) .source, g))
 
   module _ (i : ℕ) (l : i < rowsOf s) (g : grants s u p t i ≡ true) (before : (k : ℕ) → k < i → grants s u p t k ≡ false) where
     lower : (j : ℕ) → j < sourceOf s i → through (tableOf s) u p t j ≡ true → ⊥

@@ -18,7 +18,7 @@ use borrow.Author.Tests.{ltb-true, leb-true, eqb-true, lt-ltb, not-false}
 use lib.Dec.{leb, eqb}
 use Rattle.ground.specs.Outcome.{given}
 use Rattle.ground.specs.Search.{anyBelow}
-use Rattle.ground.proofs.BoolLaws.{and-yes, and-both, or-yes, not-yes, clash, eq-ext, lt-or-le}
+use Rattle.ground.proofs.BoolLaws.{and-yes, and-both, or-yes, not-yes, clash, lt-or-le}
 use Rattle.ground.proofs.SearchLaws.{any-out, any-no, any-stop, any-more, any-none-of}
 use Rattle.ground.proofs.FromLaws.{IsFirst, first-is, is-first, first-same, first-some, first-none}
 use Rattle.minutes.specs.Minutes.{E}
@@ -37,7 +37,7 @@ use Rattle.table_reader.proofs.RowsLaws.{RowAfter, rows-after}
 use Rattle.table_answers.specs.Grants.{rowGrants}
 use Rattle.table_answers.proofs.SourceLaws.{sources-up}
 use Rattle.table_answers.proofs.GrantLaws.{grants-parts}
-use Rattle.table_answers.proofs.AnswerLaws.{row-inside, grant-through, through-grant}
+use Rattle.table_answers.proofs.AnswerLaws.{row-inside, by-rows}
 use Rattle.row_times.specs.RowFirst.{RowReady, roleAtByte, rowFirst}
 use Rattle.table_times.specs.FirstUse.{grantsBelow, firstOfRows, idle, firstUse}
 
@@ -143,24 +143,14 @@ module _ (s : List ℕ) (u p m below first : ℕ) where
 
 -- ---- the rows of an accepted table
 module _ (s : List ℕ) (f : TableFine s) (u p below : ℕ) where
-  -- a role below `below` answers exactly when a row of one grants
-  by-rows : (t : ℕ) → anyBelow below (through (tableOf s) u p t) ≡ anyBelow (rowsOf s) (grantsBelow s u p below (16 + 17 * derivedOf s) t)
+  below-rows : (t : ℕ) → anyBelow below (through (tableOf s) u p t) ≡ anyBelow (rowsOf s) (grantsBelow s u p below (16 + 17 * derivedOf s) t)
   unfolding rowOf
-  by-rows t =
-      eq-ext _ _
-      (λ h.
-      let r = any-out _ _ h in
-      let k = through-grant s f u p t (r .0) (r .2) in
-      let l : sourceOf s (k .row) < below = omega (arith, k .source, r .1) in
-      any-stop _ _ (k .row) (k .below) (counts-in s u p below (16 + 17 * derivedOf s) t (k .row) l (k .granted)))
-      (λ h.
-      let i = any-out _ _ h in
-      let g = counts-out s u p below (16 + 17 * derivedOf s) t (i .0) (i .2) in
-      any-stop _ _ (sourceOf s (i .0)) (g .0) (grant-through s f u p t (i .0) (i .1) (g .1)))
+  below-rows t =
+      by-rows s f u p t below _ (counts-in s u p below (16 + 17 * derivedOf s) t) (λ k l. counts-out s u p below (16 + 17 * derivedOf s) t k)
 
   all-rows : (m best : ℕ) → best ≡ firstOfRows s u p m below (16 + 17 * derivedOf s) (rowsOf s) → best ≡ firstUse (tableOf s) u p m below
   unfolding firstOfRows firstUse
-  all-rows m best e = e ∙ first-same m E _ _ (λ t b. sym (by-rows t))
+  all-rows m best e = e ∙ first-same m E _ _ (λ t b. sym (below-rows t))
 
 -- rows go by source role, and the rows of one by their dates
 module _ (s : List ℕ) (f : TableFine s) where
