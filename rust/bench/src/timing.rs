@@ -53,6 +53,11 @@ impl<T, F: FnMut(usize) -> T> Timed<F> {
         }
     }
 
+    /// Forgets the rounds that found the number of calls: they followed each other.
+    fn start_anew(&mut self, calls: usize) {
+        (self.calls, self.best) = (calls, Duration::MAX);
+    }
+
     /// Calls with the numbers from 0 on.
     fn round(&mut self) {
         let start = Instant::now();
@@ -78,12 +83,17 @@ pub fn time_once<T, U>(proved: impl FnOnce() -> T, tuned: impl FnOnce() -> U) ->
     Times { proved: seconds(proved), tuned: seconds(tuned) }
 }
 
-/// The quickest round of each; rounds alternate. Where one call takes long there are few. Their
-/// number follows from the quickest, not from the time spent: interrupted rounds use up nothing.
+/// The quickest round of each; rounds alternate, and both have as many calls: what the first calls
+/// of a round pay, since the other ran before, weighs the same for both. Where one call takes long
+/// there are few rounds. Their number follows from the quickest, not from the time spent:
+/// interrupted rounds use up nothing.
 pub fn time<T, U>(proved: impl FnMut(usize) -> T, tuned: impl FnMut(usize) -> U) -> Times {
     let (mut proved, mut tuned) = (Timed::new(proved), Timed::new(tuned));
-    let mut rounds = 0;
     let least = if proved.best.max(tuned.best) > LONG { 1 } else { LEAST_ROUNDS };
+    let calls = proved.calls.max(tuned.calls);
+    proved.start_anew(calls);
+    tuned.start_anew(calls);
+    let mut rounds = 0;
     while rounds < least || proved.best.max(tuned.best) * rounds < ALL {
         proved.round();
         tuned.round();
