@@ -1,6 +1,7 @@
 use native.Mathlib.Omega.{arith}
 use Rattle.counting.proofs.KeptLaws.{start-fits}
 use borrow.Author.Needs.{needs}
+use borrow.Author.Tests.{leb-true}
 use Rattle.area.proofs.all_fit.Statement.{statement}
 use Rattle.area.proofs.all_fit.Tie as tie
 
@@ -20,7 +21,7 @@ mul-result : tie.Need-mul-result
 mul-result c = omega (arith, start-fits (c .before .args .roles) (c .before .args .n) (c .before .pre .0) (c .before .pre .1))
 
 returns-2 : tie.Need-returns-2
-returns-2 c = search needs
+returns-2 c e = (omega (arith, c .if1 .left), leb-true _ _ e)
 
 pub all-fit-spec : {M : Type 1} → statement M
 all-fit-spec = tie.close (tie.spec mul-if1 mul-if1-2 returns add-result mul-result returns-2)
