@@ -125,7 +125,7 @@ module _ (a b u p i r s : ℕ) where
   pub turned-users : Lowest a i → i < 64 → s ≡ one (has u i) → r ≡ remove a i → Turned a b u p (record { side = s; users = r; permissions = b })
   unfolding turnsOf
   turned-users low h es er =
-      record { bit = has u i; to = es; first = ap (λ (l : List Bool). l ++ answers 64 (has b) (has p)) (answers-take a i low h u r er) }
+      record { bit = has u i; to = es; first = ap (λ (l : List Bool). l ++ answers 64 (has b) (has p)) (answers-take a i low h u r er); none = λ e. e }
 
   pub turned-permissions : a ≡ 0 → Lowest b i → i < 64 → s ≡ one (has p i) → r ≡ remove b i → Turned a b u p (record { side = s; users = 0; permissions = r })
   unfolding turnsOf
@@ -137,6 +137,7 @@ module _ (a b u p i r s : ℕ) where
         first =
             ap₂ (λ (l m : List Bool). l ++ m) (ap (λ (x : ℕ). answers 64 (has x) (has u)) z ∙ none) (answers-take b i low h p r er)
             ∙ ap (λ (l : List Bool). has p i ∷ (l ++ answers 64 (has r) (has p))) (sym none);
+        none = λ e. clash (has b i) (low .member) (ap (λ (x : ℕ). has x i) e ∙ has-none i);
       }
 
 -- where no member is left there are no turns

@@ -17,6 +17,11 @@ usersAt pairs k = getD pairs (2 * k) 0
 abbrev pub permissionsAt : List ℕ → ℕ → ℕ
 permissionsAt pairs k = getD pairs (2 * k + 1) 0
 
+-- single keys as pairs, of which the second set is empty
+unfoldable pub keyPairs : List ℕ → List ℕ
+keyPairs [] = []
+keyPairs (k ∷ keys) = k ∷ 0 ∷ keyPairs keys
+
 -- what g says of the numbers below n that pass f, the lowest first
 unfoldable pub answers : ℕ → (ℕ → Bool) → (ℕ → Bool) → List Bool
 answers zero f g = []
@@ -36,6 +41,7 @@ pub record Turned (a b u p : ℕ) (t : Turn) : Type 0 where
   pub bit : Bool
   pub to : t .side ≡ one bit
   pub first : turnsOf a b u p ≡ bit ∷ turnsOf (t .users) (t .permissions) u p
+  pub none : b ≡ 0 → t .permissions ≡ 0
 
 -- the place of the links where the walk that seeks u and p begins, one of w: the high halves and the low halves are spread by four multipliers, and of
 -- the square of the sum's middle 16 bits count, scaled to the number of trees; which place it is does not matter to what is promised

@@ -3,13 +3,13 @@
 // w + 2 k + 1 the two children of pair k, each as one more than its number, or 0 where there is none. How many trees there are the caller says, the same
 // at each call: about as many as there are pairs is best, since few trees make long walks and many roots take time to clear. A walk turns at each pair
 // by one member, of those that any pair can have, and goes on without it: however the pairs are chosen, it looks at no more of them than there are
-// such members, and one.
+// such members, and one. An index of single keys of 32 bits, where each is one number of the list, is the same with a key as a pair of it and the empty set.
 ghost use mathlib.Core.Path.{_≡_};
 ghost use Prim.Native.Nat.{_+_, _*_, _<_, _≤_};
 ghost use lib.ListN.{length};
 ghost use Rattle.ground.specs.Search.{one};
 ghost use Rattle.bitset.specs.Sets.{has};
-ghost use Rattle.trees.specs.Tree.{Turned, bucketOf, Within, Indexed, Sought};
+ghost use Rattle.trees.specs.Tree.{Turned, bucketOf, Within, keyPairs, Indexed, Sought};
 
 // A turn of a walk: to which side, and which members are left to go by.
 pub struct Turn {
@@ -100,5 +100,28 @@ pub fn find(
         hook = w + 2 * k + t.side;
         rest_a = t.users;
         rest_b = t.permissions;
+    }
+}
+
+// Where m stands among the first n keys; or n, and where the walk that seeks it ends.
+pub fn find_key(keys: &[u32], links: &[u16], w: usize, n: usize, m: u32) -> Found
+    requires { ⌜ (n ≤ length (now keys)) × (w + 2 * n ≤ length (now links)) × (n < 33345) × (0 < w) × (w ≤ 65536) ⌝ }
+    requires { ⌜ Indexed w n (keyPairs (now keys)) (now links) 4294967295 0 ⌝ }
+    ensures { λ f. ⌜ Sought w n (keyPairs (now (keys .entry))) (now (links .entry)) 4294967295 0 m 0 f ⌝ }
+{
+    let mut rest = 4294967295;
+    let mut hook = bucket(m as u64, 0, w);
+    loop {
+        let link = links[hook] as usize;
+        if link == 0 {
+            return Found { place: n, hook };
+        }
+        let key = link - 1;
+        if keys[key] == m {
+            return Found { place: key, hook };
+        }
+        let turn = next_turn(rest, 0, m as u64, 0);
+        hook = w + 2 * key + turn.side;
+        rest = turn.users;
     }
 }
