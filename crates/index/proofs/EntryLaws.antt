@@ -48,7 +48,7 @@ entries-none source pairs = left-none source 0 pairs 0 refl
 
 module _ {A : Type 0} (alike : A → A → Bool) (x : A) where
   -- not after a place where it stands
-  place-upto : (l : List A) (k : ℕ) (z : A) → k < length l → alike x (getD l k z) ≡ true → placeOf alike x l ≤ k
+  pub place-upto : (l : List A) (k : ℕ) (z : A) → k < length l → alike x (getD l k z) ≡ true → placeOf alike x l ≤ k
   unfolding placeOf
   place-upto [] k z h t = absurd (omega arith)
   place-upto (y ∷ l) zero z h t = rw t (omega arith)
@@ -59,7 +59,7 @@ module _ {A : Type 0} (alike : A → A → Bool) (x : A) where
       go false i = omega arith
 
   -- not among the first k where it is not there
-  place-from : (l : List A) (k : ℕ) (z : A) → k ≤ length l → ((i : ℕ) → i < k → alike x (getD l i z) ≡ false) → k ≤ placeOf alike x l
+  pub place-from : (l : List A) (k : ℕ) (z : A) → k ≤ length l → ((i : ℕ) → i < k → alike x (getD l i z) ≡ false) → k ≤ placeOf alike x l
   unfolding placeOf
   place-from l zero z h f = omega arith
   place-from [] (suc k) z h f = absurd (omega arith)

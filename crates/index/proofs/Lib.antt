@@ -1,3 +1,4 @@
 pub mod PairLaws
 pub mod LinkLaws
 pub mod EntryLaws
+pub mod KeyLaws

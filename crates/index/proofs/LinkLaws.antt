@@ -1,7 +1,7 @@
 -- The index with no pair, and with one pair more.
 -- Assumes nothing.
 use Prim.Native.Nat.{ℕ, zero, suc, _+_, _*_, _≤_, _<_}
-use mathlib.Core.Path.{_≡_, refl, sym, _∙_, ap}
+use mathlib.Core.Path.{_≡_, refl, sym, _∙_, ap, subst}
 use mathlib.Core.Bool.{Bool, true, false}
 use mathlib.Core.Logic.{⊎-elim, _⊎_, inl, inr}
 use mathlib.Core.List.{List}
@@ -12,7 +12,7 @@ use lib.Seq.{getD-set-same, getD-set-other}
 use borrow.Author.Count.{below-more}
 use borrow.Author.Tests.{eqb-true, eqb-false}
 use Rattle.ground.proofs.BoolLaws.{lt-or-le}
-use Rattle.index.specs.Entries.{withPair}
+use Rattle.index.specs.Entries.{withPair, linked}
 use Rattle.trees.specs.Tree.{usersAt, permissionsAt, turnAt, bucketOf, Comes, Within, Absent, Reached, Indexed, Ends}
 use Rattle.index.proofs.PairLaws.{users-kept, permissions-kept, users-new, permissions-new}
 use Rattle.trees.proofs.TurnLaws.{bucket-small}
@@ -144,8 +144,9 @@ module _ (w : ℕ) (pos : 0 < w) (d : ℕ) (pairs : List ℕ) (u p : ℕ) (hp : 
 
   -- ---- one pair more
 
-  pub index-add : Indexed w (d + 1) pairs′ links′ a b
-  index-add =
+  index-more : Indexed w (d + 1) pairs′ (linked links w d hook) a b
+  unfolding linked
+  index-more =
       record {
         distinct =
             below-more (λ (k : ℕ). Absent k pairs′ (usersAt pairs′ k) (permissionsAt pairs′ k)) d
@@ -159,3 +160,6 @@ module _ (w : ℕ) (pos : 0 < w) (d : ℕ) (pairs : List ℕ) (u p : ℕ) (hp : 
             below-more (λ (k : ℕ). Reached w links′ a b (usersAt pairs′ k) (permissionsAt pairs′ k) k) d
             (λ k h. rw (users-kept pairs d u p k h, permissions-kept pairs d u p k h) (old-leads k h)) (rw (users-new pairs d u p hp, permissions-new pairs d u p hp) new-leads);
       }
+
+  pub index-add : (then : List ℕ) → then ≡ linked links w d hook → Indexed w (d + 1) pairs′ then a b
+  index-add then e = subst (λ (l : List ℕ). Indexed w (d + 1) pairs′ l a b) (sym e) index-more

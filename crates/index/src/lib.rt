@@ -1,11 +1,21 @@
-// Pairs of sets in the order in which they first come, each once, and an index that finds a pair among them, by the trees of crate trees.
+// Pairs of sets, or single keys, in the order in which they first come, each once, and an index that finds one among them, by the trees of crate trees.
 ghost use mathlib.Core.Path.{_≡_};
 ghost use mathlib.Core.List.{List};
 ghost use Prim.Native.Nat.{ℕ, _+_, _*_, _<_, _≤_};
 ghost use lib.ListN.{length};
 ghost use Rattle.table.specs.Inside.{entryMade};
-ghost use Rattle.index.specs.Entries.{Entered, withPair, after};
-ghost use Rattle.trees.specs.Tree.{Within, Indexed, Absent, Ends};
+ghost use Rattle.index.specs.Entries.{Entered, KeyEntered, withPair, linked, after};
+ghost use Rattle.trees.specs.Tree.{Within, keyPairs, Indexed, Absent, Ends};
+
+// The link at `hook` leads to pair d, which has no children.
+fn link(links: &mut [u16], w: usize, d: usize, hook: usize)
+    requires { ⌜ (w + 2 * d + 1 < length (now links)) × (d < 33345) × (w ≤ 65536) × (hook < w + 2 * d) ⌝ }
+    ensures { λ _. ⌜ now (links .exit) ≡ linked (now (links .entry)) w d hook ⌝ }
+{
+    links[hook] = (d + 1) as u16;
+    links[w + 2 * d] = 0;
+    links[w + 2 * d + 1] = 0;
+}
 
 // The pair u and p, which is not among the first d, comes next, and is linked where its walk ended.
 fn add(
@@ -26,9 +36,7 @@ fn add(
 {
     pairs[2 * d] = u;
     pairs[2 * d + 1] = p;
-    links[hook] = (d + 1) as u16;
-    links[w + 2 * d] = 0;
-    links[w + 2 * d + 1] = 0;
+    link(links, w, d, hook);
 }
 
 // No pair yet: an index of w trees that has none, whatever pairs are to come.
@@ -66,5 +74,22 @@ pub fn enter(
         return k;
     }
     add(pairs, links, w, a, b, d, u, p, f.hook);
+    d
+}
+
+// Where m stands among the first d keys; where it is not there yet it becomes the next one, d.
+pub fn enter_key(keys: &mut [u32], links: &mut [u16], w: usize, d: usize, m: u32) -> usize
+    requires { ⌜ (d < length (now keys)) × (w + 2 * d + 1 < length (now links)) × (d < 33345) × (0 < w) × (w ≤ 65536) ⌝ }
+    requires { ⌜ Indexed w d (keyPairs (now keys)) (now links) 4294967295 0 ⌝ }
+    ensures { λ k. ⌜ KeyEntered m d (now (keys .entry)) (now (keys .exit)) k
+        × Indexed w (after d k) (keyPairs (now (keys .exit))) (now (links .exit)) 4294967295 0 ⌝ }
+{
+    let f = trees::find_key(keys, links, w, d, m);
+    let place = f.place;
+    if place < d {
+        return place;
+    }
+    keys[d] = m;
+    link(links, w, d, f.hook);
     d
 }

@@ -1,7 +1,6 @@
 -- One place of the links changes, the one at which the walk that seeks the new pair ended: every other walk is as it was.
 use native.Mathlib.Omega.{arith}
 use mathlib.Core.Path.{refl}
-use lib.ListN.{length-set}
 use Rattle.index.specs.Entries.{withPair}
 use Rattle.index.proofs.LinkLaws.{index-add}
 use borrow.Author.Needs.{needs}
@@ -29,44 +28,8 @@ mul-pairs-4 c = search needs
 slice-write-pairs-2 : tie.Need-slice-write-pairs-2
 slice-write-pairs-2 c = search needs
 
-add-links : tie.Need-add-links
-add-links c = search needs
-
-cast-links : tie.Need-cast-links
-cast-links c = search needs
-
-mul-links : tie.Need-mul-links
-mul-links c = search needs
-
-slice-write-links : tie.Need-slice-write-links
-slice-write-links c = omega (arith, c .pre .1 .4 .within)
-
-mul-links-2 : tie.Need-mul-links-2
-mul-links-2 c = search needs
-
-add-links-2 : tie.Need-add-links-2
-add-links-2 c = search needs
-
-mul-links-3 : tie.Need-mul-links-3
-mul-links-3 c = search needs
-
-slice-write-links-2 : tie.Need-slice-write-links-2
-slice-write-links-2 c = simp length-set (omega arith)
-
-mul-links-4 : tie.Need-mul-links-4
-mul-links-4 c = search needs
-
-add-links-3 : tie.Need-add-links-3
-add-links-3 c = search needs
-
-add-links-4 : tie.Need-add-links-4
-add-links-4 c = search needs
-
-mul-links-5 : tie.Need-mul-links-5
-mul-links-5 c = search needs
-
-slice-write-links-3 : tie.Need-slice-write-links-3
-slice-write-links-3 c = simp length-set (omega arith)
+link-requires : tie.Need-link-requires
+link-requires c κs = let p = c .before .before .before .pre in (p .0 .1, p .0 .2, p .0 .4, p .1 .4 .within)
 
 same-length : tie.Need-same-length
 same-length c = search needs
@@ -76,7 +39,7 @@ same-length-2 c = search needs
 
 returns : tie.Need-returns
 unfolding withPair
-returns c = let a = c .args in let p = c .pre in (refl, index-add (a .w) (p .0 .3) (a .d) (a .pairs .now) (a .u) (a .p) (p .0 .0) (p .1 .0) (p .0 .1) (p .1 .1) (p .1 .2) (p .1 .3) (p .1 .4))
+returns c = let a = c .before .before .before .before .before .before .args in let p = c .before .before .before .before .before .before .pre in (refl, index-add (a .w) (p .0 .3) (a .d) (a .pairs .now) (a .u) (a .p) (p .0 .0) (p .1 .0) (p .0 .1) (p .1 .1) (p .1 .2) (p .1 .3) (p .1 .4) _ (c .before .before .link .ensures))
 
 pub add-spec : {M : Type 1} → statement M
 add-spec =
@@ -89,19 +52,7 @@ add-spec =
     add-pairs
     mul-pairs-4
     slice-write-pairs-2
-    add-links
-    cast-links
-    mul-links
-    slice-write-links
-    mul-links-2
-    add-links-2
-    mul-links-3
-    slice-write-links-2
-    mul-links-4
-    add-links-3
-    add-links-4
-    mul-links-5
-    slice-write-links-3
+    link-requires
     same-length
     same-length-2
     returns)
