@@ -2,7 +2,6 @@
 --     derived-kinds, marks-kinds              for any function from masks to what a field with one gives
 --     marks-are                               each mark is the place of its derived role among all of them
 --     kinds-length, kinds-most, masks-most    how many kinds and masks, and that each kind names a mask or none
---     masks-from                              each of the distinct masks is one of the masks, and is not 0
 --     map-at                                  what a function gives for the element at an index
 -- Assumes nothing.
 use Prim.Native.Nat.{ℕ, zero, suc, _+_, _≤_, _<_}
@@ -19,7 +18,7 @@ use Rattle.ground.specs.Choice.{pick}
 use Rattle.ground.specs.Search.{any}
 use Rattle.ground.specs.Sequence.{All}
 use Rattle.ground.proofs.BoolLaws.{clash, or-yes}
-use Rattle.ground.proofs.ListLaws.{all-with, all-append, map-same}
+use Rattle.ground.proofs.ListLaws.{all-with, map-same}
 use Rattle.table.specs.Table.{Entry}
 use Rattle.derivation.specs.Distinct.{addNew, addAll, placeOf}
 use Rattle.derivation.specs.Kinds.{addMask, masksFrom, kindOf, kindsFrom, byKind}
@@ -106,14 +105,6 @@ kinds-most ds (m ∷ ms) = (subst (λ (k : ℕ). k ≤ length (masksFrom (addMas
     below =
         by-zero (λ (b : Bool). pick b 0 (suc (placeOf eqb m (masksFrom (addMask ds m) ms))) ≤ length (masksFrom (addMask ds m) ms)) m (λ e. omega arith)
         (λ h. place-below eqb m (masksFrom (addMask ds m) ms) (masks-there ds m ms h .0))
-
--- what holds of all masks that are not 0
-pub masks-from : (P : ℕ → Type 0) (ds ms : List ℕ) → All P ds → All (λ (m : ℕ). (m ≡ 0 → ⊥) → P m) ms → All P (masksFrom ds ms)
-unfolding masksFrom
-masks-from P ds [] p q = p
-masks-from P ds (m ∷ ms) p q =
-    masks-from P (addMask ds m) ms
-    (mask-cases (All P) ds m (λ e. p) (λ h. add-cases eqb (All P) ds m (λ k. p) (λ k. all-append P ds (m ∷ []) p (q .0 h, tt)))) (q .1)
 
 -- ---- what the masks give
 

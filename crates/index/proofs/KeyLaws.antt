@@ -15,7 +15,7 @@ use borrow.Author.Tests.{eq-eqb, ne-eqb}
 use Rattle.ground.specs.Choice.{pick}
 use Rattle.derivation.specs.Distinct.{placeOf}
 use Rattle.derivation.proofs.TableDistinct.{place-most, add-found, add-end}
-use Rattle.index.specs.Entries.{withPair, linked, after, KeyEntered}
+use Rattle.index.specs.Entries.{withPair, linked, KeyEntered}
 use Rattle.trees.specs.Tree.{usersAt, permissionsAt, keyPairs, Absent, Indexed, Ends}
 use Rattle.trees.proofs.KeyLaws.{users-key, permissions-key, key-within, nothing-within}
 use Rattle.index.proofs.LinkLaws.{index-add}

@@ -13,7 +13,7 @@ use lib.Seq.{getD-set-same, getD-set-other}
 use Rattle.ground.specs.Sequence.{listOf}
 use Rattle.ground.proofs.BoolLaws.{lt-or-le}
 use Rattle.ground.proofs.SequenceLaws.{listOf-length}
-use Rattle.derivation.specs.Kinds.{addMask, masksFrom, kindOf, kindsFrom}
+use Rattle.derivation.specs.Kinds.{addMask, masksFrom, kindOf, kindsFrom, masksIn}
 use Rattle.derivation.proofs.KindLaws.{kinds-length}
 use Rattle.hours.specs.Inside.{datesHold, recordsThat}
 use Rattle.rota.specs.RotaBytes.{headerLength}
@@ -21,7 +21,7 @@ use Rattle.grid.specs.Grid.{maskIn, masksTo, Ready}
 use Rattle.grid.specs.Stretches.{fieldKinds, Stretched}
 use Rattle.grid.proofs.LaidLaws.{masks-none, masks-more, masks-all}
 use Rattle.grid.proofs.StretchLaws.{kinds-none, kinds-same, ends-rise}
-use Rattle.kinds.specs.Kinds.{masksOf, keys, Held, RowRoom, Laid, Room, NumberedTo}
+use Rattle.kinds.specs.Kinds.{masksOf, Held, RowRoom, Laid, Room, Numbered}
 
 masks-append : (ds ms ns : List ℕ) → masksFrom ds (ms ++ ns) ≡ masksFrom (masksFrom ds ms) ns
 unfolding masksFrom
@@ -34,12 +34,12 @@ kinds-append ds [] ns = refl
 kinds-append ds (m ∷ ms) ns = ap (λ (l : List ℕ). kindOf ds m ∷ l) (kinds-append (addMask ds m) ms ns)
 
 -- the scratch is as long as it was
-pub record Long (row₀ kinds₀ lens₀ ends₀ pairs₀ links₀ row kinds lens ends pairs links : List ℕ) : Type 0 where
+pub record Long (row₀ kinds₀ lens₀ ends₀ sets₀ links₀ row kinds lens ends sets links : List ℕ) : Type 0 where
   pub of-row : length row ≡ length row₀
   pub of-kinds : length kinds ≡ length kinds₀
   pub of-lens : length lens ≡ length lens₀
   pub of-ends : length ends ≡ length ends₀
-  pub of-pairs : length pairs ≡ length pairs₀
+  pub of-sets : length sets ≡ length sets₀
   pub of-links : length links ≡ length links₀
 
 -- ---- the stretches of no era, and of one more
@@ -102,20 +102,20 @@ module _ {i nc : ℕ} {kinds lens ends : List ℕ} (s : Stretched i nc kinds len
 
 -- ---- the loop
 
-pub record Passed (s eras : List ℕ) (ne nc w : ℕ) (kinds lens ends pairs links : List ℕ) (i first d : ℕ) : Type 0 where
+pub record Passed (s eras : List ℕ) (ne nc w : ℕ) (kinds lens ends sets links : List ℕ) (i first d : ℕ) : Type 0 where
   pub below : i ≤ ne
   pub stretched : Stretched i nc kinds lens ends
   pub place : first ≡ getD ends i 0
   pub early : first ≤ i * nc
   pub kinds-so : fieldKinds kinds lens first ≡ kindsFrom [] (masksTo s eras i)
-  pub masks-so : keys d pairs ≡ masksFrom [] (masksTo s eras i)
-  pub held : Held w d pairs links
+  pub masks-so : masksIn sets d ≡ masksFrom [] (masksTo s eras i)
+  pub held : Held w d sets links
   pub most : d ≤ i * nc
 
-pub passed-none : (s eras : List ℕ) (ne nc w : ℕ) (kinds lens ends pairs links : List ℕ) → 0 < length ends → Held w 0 pairs links
-    → Passed s eras ne nc w kinds lens (set ends 0 0) pairs links 0 0 0
-unfolding kindsFrom masksFrom keys listOf
-passed-none s eras ne nc w kinds lens ends pairs links l h =
+pub passed-none : (s eras : List ℕ) (ne nc w : ℕ) (kinds lens ends sets links : List ℕ) → 0 < length ends → Held w 0 sets links
+    → Passed s eras ne nc w kinds lens (set ends 0 0) sets links 0 0 0
+unfolding kindsFrom masksFrom masksIn
+passed-none s eras ne nc w kinds lens ends sets links l h =
     let e : getD (set ends 0 0) 0 0 ≡ 0 = getD-set-same ends 0 0 0 l in
     record {
       below = omega arith;
@@ -128,21 +128,21 @@ passed-none s eras ne nc w kinds lens ends pairs links l h =
       most = omega arith;
     }
 
-module _ {s eras : List ℕ} {ne nc w : ℕ} {kinds lens ends pairs links : List ℕ} {i first d : ℕ}
-    (p : Passed s eras ne nc w kinds lens ends pairs links i first d) where
+module _ {s eras : List ℕ} {ne nc w : ℕ} {kinds lens ends sets links : List ℕ} {i first d : ℕ}
+    (p : Passed s eras ne nc w kinds lens ends sets links i first d) where
   next-place : i < ne → i * nc + nc ≤ ne * nc
   next-place h = omega (arith, mul-le-mul-right nc h)
 
-  pub row-room : (row₀ kinds₀ lens₀ ends₀ pairs₀ links₀ row : List ℕ) → i < ne → nc ≤ length row₀ → Room (ne * nc) ne w kinds₀ lens₀ ends₀ pairs₀ links₀
-      → Long row₀ kinds₀ lens₀ (set ends₀ 0 0) pairs₀ links₀ row kinds lens ends pairs links → RowRoom nc d first w row kinds lens pairs links
-  row-room row₀ kinds₀ lens₀ ends₀ pairs₀ links₀ row h lr r l =
+  pub row-room : (row₀ kinds₀ lens₀ ends₀ sets₀ links₀ row : List ℕ) → i < ne → nc ≤ length row₀ → Room (ne * nc) ne w kinds₀ lens₀ ends₀ sets₀ links₀
+      → Long row₀ kinds₀ lens₀ (set ends₀ 0 0) sets₀ links₀ row kinds lens ends sets links → RowRoom nc d first w row kinds lens sets links
+  row-room row₀ kinds₀ lens₀ ends₀ sets₀ links₀ row h lr r l =
       let z = next-place h in
       record {
         for-row = omega (arith, l .of-row);
         for-kinds = omega (arith, p .early, l .of-kinds, r .for-kinds);
         for-lens = omega (arith, p .early, l .of-lens, r .for-lens);
         few = omega (arith, p .most, r .few);
-        for-pairs = omega (arith, p .most, l .of-pairs, r .for-pairs);
+        for-sets = omega (arith, p .most, l .of-sets, r .for-sets);
         for-links = omega (arith, p .most, l .of-links, r .for-links);
         some = r .some;
         most = r .most;
@@ -153,13 +153,13 @@ module _ {s eras : List ℕ} {ne nc w : ℕ} {kinds lens ends pairs links : List
   end-room h e r l l′ = omega (arith, p .early, next-place h)
 
   module _ {cycle from h : ℕ} {cells held : List ℕ} (ready : Ready s cycle from h eras ne cells nc held) where
-    pub passed-more : {dates : ℕ} (row kinds′ lens′ pairs′ links′ : List ℕ) (end d′ : ℕ) → i < ne
+    pub passed-more : {dates : ℕ} (row kinds′ lens′ sets′ links′ : List ℕ) (end d′ : ℕ) → i < ne
         → dates ≡ recordsThat s (headerLength s) h (datesHold (getD eras i 0))
         → take (0 + nc) row ≡ listOf nc (maskIn cycle dates (getD eras i 0) (getD eras (i + 1) 0) cells held)
-        → Laid (keys d pairs) row nc first end kinds lens kinds′ lens′ → keys d′ pairs′ ≡ masksFrom (keys d pairs) (take nc row) → Held w d′ pairs′ links′
+        → Laid (masksIn sets d) row nc first end kinds lens kinds′ lens′ → masksIn sets′ d′ ≡ masksFrom (masksIn sets d) (take nc row) → Held w d′ sets′ links′
         → d′ ≤ d + nc → end ≤ length kinds′ → end ≤ length lens′ → i + 1 < length ends
-        → Passed s eras ne nc w kinds′ lens′ (set ends (i + 1) end) pairs′ links′ (i + 1) end d′
-    passed-more {dates} row kinds′ lens′ pairs′ links′ end d′ hi ed er laid em held′ few lk ll le =
+        → Passed s eras ne nc w kinds′ lens′ (set ends (i + 1) end) sets′ links′ (i + 1) end d′
+    passed-more {dates} row kinds′ lens′ sets′ links′ end d′ hi ed er laid em held′ few lk ll le =
         record {
           below = omega arith;
           stretched = stretched-more (p .stretched) kinds′ lens′ (rw (p .place) at laid) (ap length row-is ∙ listOf-length nc _) lk ll le;
@@ -182,7 +182,7 @@ module _ {s eras : List ℕ} {ne nc w : ℕ} {kinds lens ends pairs links : List
         more : masksTo s eras (i + 1) ≡ masksTo s eras i ++ masks
         more = masks-more s (ready .accepted) eras cells ne nc (ready .era-cuts) (ready .cell-cuts) i hi (ready .cycle-is) (ready .hours-are) ed (ready .in-cells)
 
-    pub passed-all : ne ≤ i → NumberedTo s ne nc d kinds lens ends pairs
+    pub passed-all : ne ≤ i → Numbered s ne nc d kinds lens ends sets
     unfolding masksOf
     passed-all h =
         let q : i ≡ ne = le-antisymm (p .below) h in
@@ -191,5 +191,5 @@ module _ {s eras : List ℕ} {ne nc w : ℕ} {kinds lens ends pairs links : List
           few = rw (← q) (p .most);
           stretched = rw (← q) (p .stretched);
           kinds-are = ap (fieldKinds kinds lens) (ap (λ (k : ℕ). getD ends k 0) (sym q) ∙ sym (p .place)) ∙ p .kinds-so ∙ ap (kindsFrom []) all;
-          masks-are = p .masks-so ∙ ap (masksFrom []) all;
+          sets-are = p .masks-so ∙ ap (masksFrom []) all;
         }

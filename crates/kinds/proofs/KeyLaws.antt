@@ -1,97 +1,58 @@
--- The distinct masks as pairs of sets whose second set is empty: the kind of one more mask.
+-- The kind of one more mask, by its hours among those of the distinct masks.
 --     masks-stretch, kinds-stretch  the masks and the kinds with one mask some times over
---     found-none, found-entered     no minute, and a mask that the index entered
---     mask-within, held-none        what the index asks of a mask, and the index of no mask
+--     found-none, found-entered     no minute, and a mask whose hours the index entered
 -- Assumes nothing.
-use Prim.Native.Nat.{ℕ, zero, suc, _+_, _^_, _≤_, _<_}
+use Prim.Native.Nat.{ℕ, zero, suc, _+_, _%_, _^_, _≤_, _<_}
 use mathlib.Core.Path.{_≡_, refl, sym, _∙_, ap, ap₂, subst}
-use mathlib.Core.Bool.{Bool, true, false, _&&_, _||_, not}
+use mathlib.Core.Bool.{Bool, true, false, _||_}
 use mathlib.Core.List.{List, [], _∷_, _++_, map, map-append}
+use native.Mathlib.Nat.{mod-lt}
 use native.Mathlib.Omega.{arith}
 use native.Mathlib.Numerals.{add-one}
-use lib.Dec.{eqb, ltb}
-use lib.ListN.{replicate}
-use lib.Pow.{pow-pos}
-use borrow.Author.Tests.{eq-eqb, ne-eqb, eqb-false, ltb-true, ltb-false}
+use lib.Dec.{eqb}
+use lib.ListN.{length, getD, take, replicate}
+use lib.Seq.{getD-take, length-take-le}
+use borrow.Author.Tests.{eq-eqb, ne-eqb, eqb-true, eqb-false}
 use Rattle.ground.specs.Choice.{pick}
 use Rattle.ground.specs.Search.{any}
 use Rattle.ground.specs.Sequence.{All}
-use Rattle.ground.proofs.ListLaws.{all-map}
-use Rattle.ground.proofs.BoolLaws.{clash}
-use Rattle.ground.proofs.SequenceLaws.{listOf-same, map-listOf, listOf-all}
-use Rattle.bitset.specs.Sets.{has}
-use Rattle.bitset.proofs.SetLaws.{has-none, has-past, has-not}
-use Rattle.table.specs.Table.{Entry}
-use Rattle.table.specs.Inside.{entryMade}
+use Rattle.ground.proofs.BoolLaws.{eq-ext}
+use Rattle.ground.proofs.SequenceLaws.{all-listOf, listOf-is}
+use Rattle.bitset.specs.Sets.{insert}
 use Rattle.derivation.specs.Distinct.{addNew, placeOf}
-use Rattle.derivation.specs.Rewriting.{same}
-use Rattle.derivation.specs.Kinds.{addMask, masksFrom, kindOf, kindsFrom}
+use Rattle.derivation.specs.Kinds.{addMask, masksFrom, kindOf, kindsFrom, masksIn}
 use Rattle.derivation.proofs.TableDistinct.{add-there, add-found, place-add, place-below}
-use Rattle.index.specs.Entries.{entryAt, entriesTo, after, Entered}
-use Rattle.trees.specs.Tree.{usersAt, permissionsAt, Within, Indexed}
-use Rattle.kinds.specs.Kinds.{keys, Held, Found}
+use Rattle.index.specs.Entries.{after, KeyEntered}
+use Rattle.trees.specs.Tree.{Indexed}
+use Rattle.trees.proofs.KeyLaws.{users-key, key-small}
+use Rattle.kinds.specs.Kinds.{Told, Held, Found}
 use Rattle.kinds.specs.declared.Kind.{Kind}
+use Rattle.kinds.proofs.MaskLaws.{bare-is}
 
--- ---- a mask as an entry
+-- ---- numbers by a function that tells them apart
 
-abbrev maskEntry : ℕ → Entry
-maskEntry m = entryMade 0 m 0
+module _ (f : ℕ → ℕ) (y : ℕ) where
+  -- it tells y from each of a list
+  abbrev Apart : List ℕ → Type 0
+  Apart l = All (λ (x : ℕ). eqb (f y) (f x) ≡ eqb y x) l
 
-same-mask : (a b : ℕ) → same (maskEntry a) (maskEntry b) ≡ eqb a b
-same-mask a b = go (eqb a b)
-  where
-    go : (x : Bool) → ((true && x) && true) ≡ x
-    go true = refl
-    go false = refl
+  place-by : (l : List ℕ) → Apart l → placeOf eqb (f y) (map f l) ≡ placeOf eqb y l
+  unfolding placeOf
+  place-by [] p = refl
+  place-by (x ∷ l) p = ap₂ (λ (b : Bool) (k : ℕ). pick b 0 (suc k)) (p .0) (place-by l (p .1))
 
-place-mask : (m : ℕ) (ds : List ℕ) → placeOf same (maskEntry m) (map maskEntry ds) ≡ placeOf eqb m ds
-unfolding placeOf
-place-mask m [] = refl
-place-mask m (x ∷ ds) = ap₂ (λ (b : Bool) (k : ℕ). pick b 0 (suc k)) (same-mask m x) (place-mask m ds)
+  there-by : (l : List ℕ) → Apart l → any (eqb (f y)) (map f l) ≡ any (eqb y) l
+  unfolding any
+  there-by [] p = refl
+  there-by (x ∷ l) p = ap₂ _||_ (p .0) (there-by l (p .1))
 
-there-mask : (m : ℕ) (ds : List ℕ) → any (same (maskEntry m)) (map maskEntry ds) ≡ any (eqb m) ds
-unfolding any
-there-mask m [] = refl
-there-mask m (x ∷ ds) = ap₂ _||_ (same-mask m x) (there-mask m ds)
-
-add-mask : (m : ℕ) (ds : List ℕ) → addNew same (map maskEntry ds) (maskEntry m) ≡ map maskEntry (addNew eqb ds m)
-unfolding addNew
-add-mask m ds = ap (λ (b : Bool). pick b (map maskEntry ds) (map maskEntry ds ++ (maskEntry m ∷ []))) (there-mask m ds) ∙ go (any (eqb m) ds)
-  where
-    go : (b : Bool) → pick b (map maskEntry ds) (map maskEntry ds ++ (maskEntry m ∷ [])) ≡ map maskEntry (pick b ds (ds ++ (m ∷ [])))
-    go true = refl
-    go false = sym (map-append maskEntry ds (m ∷ []))
-
--- ---- the distinct masks and their entries
-
-module _ (d : ℕ) (pairs : List ℕ) where
-  entries-keys : map (λ (e : Entry). e .users) (entriesTo 0 d pairs) ≡ keys d pairs
-  unfolding entriesTo keys
-  entries-keys = map-listOf (λ (e : Entry). e .users) d (entryAt 0 pairs)
-
-  keys-entries : ((k : ℕ) → k < d → permissionsAt pairs k ≡ 0) → entriesTo 0 d pairs ≡ map maskEntry (keys d pairs)
-  unfolding entriesTo keys
-  keys-entries h =
-      listOf-same d (entryAt 0 pairs) (λ k. maskEntry (usersAt pairs k)) (λ k l. ap (entryMade 0 (usersAt pairs k)) (h k l))
-      ∙ sym (map-listOf maskEntry d (usersAt pairs))
-
-users-masks : (ds : List ℕ) → map (λ (e : Entry). e .users) (map maskEntry ds) ≡ ds
-users-masks [] = refl
-users-masks (m ∷ ds) = ap (λ (l : List ℕ). m ∷ l) (users-masks ds)
-
-module _ (d : ℕ) (pairs ds : List ℕ) (e : entriesTo 0 d pairs ≡ map maskEntry ds) where
-  keys-are : keys d pairs ≡ ds
-  keys-are = sym (entries-keys d pairs) ∙ ap (map (λ (x : Entry). x .users)) e ∙ users-masks ds
-
-  keys-alone : (k : ℕ) → k < d → permissionsAt pairs k ≡ 0
-  unfolding entriesTo
-  keys-alone =
-      listOf-all (λ (x : Entry). x .permissions ≡ 0) d (entryAt 0 pairs)
-      (subst (All (λ (x : Entry). x .permissions ≡ 0)) (sym e) (all-map (λ (x : Entry). x .permissions ≡ 0) maskEntry ds (nothing ds)))
+  add-by : (l : List ℕ) → Apart l → addNew eqb (map f l) (f y) ≡ map f (addNew eqb l y)
+  unfolding addNew
+  add-by l p = ap (λ (b : Bool). pick b (map f l) (map f l ++ (f y ∷ []))) (there-by l p) ∙ go (any (eqb y) l)
     where
-      nothing : (l : List ℕ) → All (λ (m : ℕ). maskEntry m .permissions ≡ 0) l
-      nothing [] = tt
-      nothing (m ∷ l) = (refl, nothing l)
+      go : (b : Bool) → pick b (map f l) (map f l ++ (f y ∷ [])) ≡ map f (pick b l (l ++ (y ∷ [])))
+      go true = refl
+      go false = sym (map-append f l (y ∷ []))
 
 -- ---- one mask some times over
 
@@ -140,28 +101,56 @@ module _ (ds : List ℕ) (m : ℕ) where
 abbrev kindMade : ℕ → ℕ → Kind
 kindMade kind masks = record { kind = kind; masks = masks }
 
-module _ (m d : ℕ) (pairs : List ℕ) where
+abbrev withAlways : ℕ → ℕ
+withAlways x = insert x 32
+
+-- the bit for always tells nothing
+always-apart : (x y : ℕ) → x < 2 ^ 32 → y < 2 ^ 32 → eqb (withAlways y) (withAlways x) ≡ eqb y x
+always-apart x y hx hy =
+    eq-ext (eqb (withAlways y) (withAlways x)) (eqb y x)
+    (λ e. eq-eqb y x (sym (bare-is y hy) ∙ ap (λ (z : ℕ). z % 4294967296) (eqb-true (withAlways y) (withAlways x) e) ∙ bare-is x hx))
+    (λ e. eq-eqb (withAlways y) (withAlways x) (ap withAlways (eqb-true y x e)))
+
+-- the hours that the index has are apart from others
+held-apart : {w : ℕ} (d : ℕ) (sets : List ℕ) {links : List ℕ} → Held w d sets links → d ≤ length sets → (y : ℕ) → y < 2 ^ 32 → Apart withAlways y (take d sets)
+held-apart d sets x room y hy =
+    let n = length-take-le d sets room in
+    subst (Apart withAlways y)
+    (listOf-is d (λ (k : ℕ). getD sets k 0) (take d sets) 0 (sym n) (λ i h. sym (getD-take d sets i 0 (omega arith))))
+    (all-listOf (λ (z : ℕ). eqb (withAlways y) (withAlways z) ≡ eqb y z) d (λ (k : ℕ). getD sets k 0)
+    (λ k h. always-apart (getD sets k 0) y (key-small (getD sets k 0) (rw (users-key sets k) at (x .users-within k h))) hy))
+
+module _ (m d : ℕ) (sets : List ℕ) where
   -- no minute
-  pub found-none : m ≡ 0 → Found m d pairs pairs (kindMade 0 d)
+  pub found-none : m ≡ 0 → Found m d sets sets (kindMade 0 d)
   found-none e = rw e (record { kind-is = refl; masks-then = refl; most = omega arith; small = omega arith })
 
-  -- one that the index entered
-  module _ (ne : m ≡ 0 → ⊥) (alone : (k : ℕ) → k < d → permissionsAt pairs k ≡ 0) (k : ℕ) (pairs′ : List ℕ) (x : Entered 0 (maskEntry m) d pairs pairs′ k) where
-    entered-then : entriesTo 0 (after d k) pairs′ ≡ map maskEntry (addNew eqb (keys d pairs) m)
-    entered-then = x .entries-then ∙ ap (λ (es : List Entry). addNew same es (maskEntry m)) (keys-entries d pairs alone) ∙ add-mask m (keys d pairs)
+  -- one whose hours the index entered
+  module _ {w : ℕ} {links : List ℕ} (held : Held w d sets links) (room : d ≤ length sets) (ne : m ≡ 0 → ⊥) (told : Told m) (k : ℕ) (sets′ : List ℕ)
+      (x : KeyEntered (m % 4294967296) d sets sets′ k) where
+    abbrev hours : ℕ
+    hours = m % 4294967296
 
-    pub entered-alone : (n : ℕ) → n ≡ after d k → (j : ℕ) → j < n → permissionsAt pairs′ j ≡ 0
-    entered-alone n e = rw e (keys-alone (after d k) pairs′ (addNew eqb (keys d pairs) m) entered-then)
+    apart : Apart withAlways hours (take d sets)
+    apart = held-apart d sets held room hours (mod-lt m (omega arith))
 
-    pub found-entered : (n : ℕ) → n ≡ after d k → Found m d pairs pairs′ (kindMade (k + 1) n)
+    place-then : k ≡ placeOf eqb m (masksIn sets d)
+    place-then =
+        x .place ∙ sym (place-by withAlways hours (take d sets) apart) ∙ ap (λ (z : ℕ). placeOf eqb z (map withAlways (take d sets))) (told ne)
+        ∙ (unfold masksIn in refl)
+
+    sets-then : masksIn sets′ (after d k) ≡ addNew eqb (masksIn sets d) m
+    unfolding masksIn
+    sets-then =
+        ap (map withAlways) (x .keys-then) ∙ sym (add-by withAlways hours (take d sets) apart)
+        ∙ ap (addNew eqb (map withAlways (take d sets))) (told ne)
+
+    pub found-entered : (n : ℕ) → n ≡ after d k → Found m d sets sets′ (kindMade (k + 1) n)
     found-entered n e =
         record {
-          kind-is =
-              add-one k ∙ ap suc (x .place ∙ ap (placeOf same (maskEntry m)) (keys-entries d pairs alone) ∙ place-mask m (keys d pairs))
-              ∙ ap (λ (b : Bool). pick b 0 (suc (placeOf eqb m (keys d pairs)))) (sym (ne-eqb m 0 ne));
+          kind-is = add-one k ∙ ap suc place-then ∙ ap (λ (b : Bool). pick b 0 (suc (placeOf eqb m (masksIn sets d)))) (sym (ne-eqb m 0 ne));
           masks-then =
-              ap (λ (q : ℕ). keys q pairs′) e ∙ keys-are (after d k) pairs′ (addNew eqb (keys d pairs) m) entered-then
-              ∙ ap (λ (b : Bool). pick b (keys d pairs) (addNew eqb (keys d pairs) m)) (sym (ne-eqb m 0 ne));
+              ap (masksIn sets′) e ∙ sets-then ∙ ap (λ (b : Bool). pick b (masksIn sets d) (addNew eqb (masksIn sets d) m)) (sym (ne-eqb m 0 ne));
           most = more (eqb k d) e;
           small = small (eqb k d) refl e;
         }
@@ -174,18 +163,6 @@ module _ (m d : ℕ) (pairs : List ℕ) where
         small true z q = omega (arith, x .most)
         small false z q = let h : k ≡ d → ⊥ = eqb-false k d z in omega (arith, x .most)
 
--- ---- the index
-
-within-all : (m : ℕ) → m < 2 ^ 64 → Within m 18446744073709551615
-within-all m h = record { fits = h; members = λ j e. go j e (ltb j 64) refl }
-  where
-    go : (j : ℕ) → has m j ≡ true → (b : Bool) → ltb j 64 ≡ b → has 18446744073709551615 j ≡ true
-    go j e true z = has-not 64 0 j (pow-pos 64) (ltb-true j 64 z) ∙ ap not (has-none j)
-    go j e false z = clash (has m j) e (has-past 64 m j h (ltb-false j 64 z))
-
-pub mask-within : (m : ℕ) → m < 2 ^ 64 → Within m 18446744073709551615 × Within 0 0
-mask-within m h = (within-all m h, record { fits = pow-pos 64; members = λ j e. clash (has 0 j) e (has-none j) })
-
 pub after-old : (d k : ℕ) → k < d → d ≡ after d k
 after-old d k h = rw (ne-eqb k d (λ e. omega arith))
 
@@ -194,6 +171,3 @@ after-new d k h l = let e : k ≡ d = omega arith in rw (eq-eqb k d e)
 
 pub held-same : {w n k a b : ℕ} {pairs links : List ℕ} → n ≡ k → Indexed w k pairs links a b → Indexed w n pairs links a b
 held-same e x = rw e x
-
-pub held-none : {w : ℕ} {pairs links : List ℕ} → Indexed w 0 pairs links 18446744073709551615 0 → Held w 0 pairs links
-held-none x = record { alone = λ k h. absurd (omega arith); indexed = x }

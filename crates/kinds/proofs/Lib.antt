@@ -1,4 +1,4 @@
+pub mod MaskLaws
 pub mod KeyLaws
 pub mod RowLaws
-pub mod MaskLaws
 pub mod EraLaws

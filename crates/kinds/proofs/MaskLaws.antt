@@ -1,51 +1,34 @@
--- The masks without the bit for always, stored one after the other; and what they stand for.
---     keep-none, keep-more    the loop that stores them
---     numbered                every distinct mask has that bit, so all is kept
+-- A mask and its hours: it has the bit for always, and no other bit beyond them.
+--     bare-is        the hours of a mask
+--     row-told       the masks of an era can be told from their hours
 -- Assumes nothing.
 use Prim.Native.Nat.{ℕ, zero, suc, _+_, _*_, _%_, _^_, _≤_, _<_}
 use mathlib.Core.Path.{_≡_, refl, sym, _∙_, ap, ap₂, subst}
 use mathlib.Core.Bool.{Bool, true, false, _&&_, _||_, or-true, or-false}
 use mathlib.Core.Logic.{_⊎_, inl, inr}
-use mathlib.Core.List.{List, [], _∷_, _++_, map}
-use native.Mathlib.Numerals.{add-one, unary-clauses}
+use mathlib.Core.List.{List}
+use native.Mathlib.Numerals.{unary-clauses}
 use native.Mathlib.Omega.{arith}
 use lib.Dec.{eqb, ltb}
-use lib.ListN.{length, getD, take, set}
+use lib.ListN.{getD, take}
 use lib.Pow.{pow-mono}
-use lib.Seq.{take-suc-set}
+use lib.Seq.{getD-take}
 use borrow.Author.Tests.{eq-eqb, ne-eqb, lt-ltb, le-ltb}
 use Rattle.ground.specs.Choice.{pick}
 use Rattle.ground.specs.Search.{one}
-use Rattle.ground.specs.Sequence.{All, listOf}
+use Rattle.ground.specs.Sequence.{listOf}
 use Rattle.ground.proofs.BoolLaws.{lt-or-le}
-use Rattle.ground.proofs.ListLaws.{all-map, all-with, all-unit}
-use Rattle.ground.proofs.SequenceLaws.{listOf-more, listOf-same, map-listOf, listOf-all}
-use Rattle.bitset.specs.Sets.{has, setOf, insert}
-use Rattle.bitset.proofs.SetLaws.{ext, has-past, has-setOf, setOf-lt, setOf-has}
-use Rattle.minutes.specs.Minutes.{Window}
-use Rattle.minutes.specs.First.{minuteOf}
-use Rattle.hours.specs.Hours.{holds, never}
-use Rattle.rota.specs.Rota.{Rota}
-use Rattle.rota.specs.RotaBytes.{rotaOf}
-use Rattle.derivation.specs.Rewriting.{fields}
-use Rattle.derivation.specs.Masks.{maskOf}
-use Rattle.derivation.specs.Kinds.{masksFrom, masksIn}
-use Rattle.derivation.proofs.KindLaws.{masks-from}
-use Rattle.trees.specs.Tree.{usersAt}
-use Rattle.kinds.specs.Kinds.{masksOf, keys, bare, NumberedTo, Numbered}
-
--- ---- the loop
-
-pub keep-none : (sets pairs : List ℕ) → take 0 sets ≡ listOf 0 (bare pairs)
-unfolding listOf
-keep-none sets pairs = refl
-
-pub keep-more : (pairs sets : List ℕ) (k v : ℕ) → k < length sets → take k sets ≡ listOf k (bare pairs) → v ≡ bare pairs k
-    → take (k + 1) (set sets k v) ≡ listOf (k + 1) (bare pairs)
-keep-more pairs sets k v h e q =
-    ap (λ (j : ℕ). take j (set sets k v)) (add-one k) ∙ take-suc-set sets k v h ∙ ap₂ (λ (l : List ℕ) (x : ℕ). l ++ (x ∷ [])) e q ∙ sym (listOf-more k (bare pairs))
-
--- ---- a mask with the bit for always
+use Rattle.ground.proofs.SequenceLaws.{get-listOf}
+use Rattle.bitset.specs.Sets.{has, setOf, insert, intersection}
+use Rattle.bitset.proofs.SetLaws.{ext, has-past, has-setOf, setOf-lt, setOf-has, intersection-setOf}
+use Rattle.minutes.specs.First.{firstIn}
+use Rattle.hours.specs.Hours.{Hours}
+use Rattle.hours.specs.HoursBytes.{recordAt, hoursAt}
+use Rattle.hours.specs.Inside.{datesHold, pairsHold, recordsThat}
+use Rattle.rota.specs.RotaBytes.{headerLength}
+use Rattle.rota.proofs.RotaFine.{rota-fine}
+use Rattle.grid.specs.Grid.{fieldMask, maskIn, Ready}
+use Rattle.kinds.specs.Kinds.{Told}
 
 -- the highest member is the highest bit
 set-top : (n : ℕ) (f : ℕ → Bool) → f n ≡ true → setOf (suc n) f ≡ setOf n f + 2 ^ n
@@ -76,47 +59,31 @@ module _ (y : ℕ) (small : y < 2 ^ 32) where
   rest = sym (setOf-has 32 y joins small (λ i h. sym (ap (λ (b : Bool). has y i || b) (ne-eqb i 32 (λ e. omega arith)) ∙ or-false (has y i))))
 
   -- it is the set and that bit
-  bare-is : insert y 32 % 4294967296 ≡ y
+  pub bare-is : insert y 32 % 4294967296 ≡ y
   bare-is =
       let e : insert y 32 ≡ y + 4294967296 = lower ∙ set-top 32 joins (ap (λ (b : Bool). has y 32 || b) (eq-eqb 32 32 refl) ∙ or-true (has y 32)) ∙ ap (λ (x : ℕ). x + 4294967296) rest in
       let h : y < 4294967296 = small in
       omega arith
 
--- a mask that can be told from its hours
-abbrev Told : ℕ → Type 0
-Told m = insert (m % 4294967296) 32 ≡ m
+-- a mask that is made from hours
+mask-told : (b : Bool) (x : ℕ) → x < 2 ^ 32 → Told (pick b (insert x 32) 0)
+mask-told true x h ne = ap (λ (y : ℕ). insert y 32) (bare-is x h)
+mask-told false x h ne = absurd (ne refl)
 
-mask-told : (ρ : Rota) → length (ρ .hours) ≤ 32 → (f : Window) → (maskOf ρ f ≡ 0 → ⊥) → Told (maskOf ρ f)
-unfolding maskOf
-mask-told ρ few f = go (ltb (minuteOf (ρ .cycle) f) (f .end))
-  where
-    hours : ℕ
-    hours = setOf (length (ρ .hours)) (λ k. holds (ρ .cycle) (getD (ρ .hours) k never) (minuteOf (ρ .cycle) f))
+hours-small : (s : List ℕ) (from h : ℕ) (f g : Hours → Bool) → h ≤ 32 → intersection (recordsThat s from h f) (recordsThat s from h g) < 2 ^ 32
+unfolding recordsThat
+hours-small s from h f g few =
+    rw (intersection-setOf h (λ k. f (hoursAt s (recordAt s from k))) (λ k. g (hoursAt s (recordAt s from k))) (omega arith))
+    (omega (arith, setOf-lt h (λ k. f (hoursAt s (recordAt s from k)) && g (hoursAt s (recordAt s from k))), pow-mono few))
 
-    small : hours < 2 ^ 32
-    small = omega (arith, setOf-lt (length (ρ .hours)) (λ k. holds (ρ .cycle) (getD (ρ .hours) k never) (minuteOf (ρ .cycle) f)), pow-mono few)
-
-    go : (b : Bool) → (pick b (insert hours 32) 0 ≡ 0 → ⊥) → Told (pick b (insert hours 32) 0)
-    go true ne = ap (λ (x : ℕ). insert x 32) (bare-is hours small)
-    go false ne = absurd (ne refl)
-
--- ---- all of them
-
-pub numbered : (s : List ℕ) {ne nc d : ℕ} {kinds lens ends : List ℕ} (pairs sets : List ℕ) → length (rotaOf s .hours) ≤ 32
-    → NumberedTo s ne nc d kinds lens ends pairs → take d sets ≡ listOf d (bare pairs) → Numbered s ne nc d kinds lens ends sets
-numbered s {ne} {nc} {d} pairs sets few t e = record { few = t .few; stretched = t .stretched; kinds-are = t .kinds-are; sets-are = sets-are }
-  where
-    told : All Told (masksFrom [] (masksOf s))
-    told =
-        masks-from Told [] (masksOf s) tt
-        (unfold masksOf in
-        all-map (λ (m : ℕ). (m ≡ 0 → ⊥) → Told m) (maskOf (rotaOf s)) (fields (rotaOf s))
-        (all-with (λ f u. mask-told (rotaOf s) few f) (fields (rotaOf s)) (all-unit (fields (rotaOf s)))))
-
-    each : (k : ℕ) → k < d → Told (usersAt pairs k)
-    each = listOf-all Told d (usersAt pairs) (unfold keys in subst (All Told) (sym (t .masks-are)) told)
-
-    sets-are : masksIn sets d ≡ masksFrom [] (masksOf s)
-    sets-are = unfold masksIn bare keys in
-        ap (map (λ (x : ℕ). insert x 32)) e ∙ map-listOf (λ (x : ℕ). insert x 32) d (bare pairs)
-        ∙ listOf-same d (λ k. insert (bare pairs k) 32) (usersAt pairs) each ∙ t .masks-are
+pub row-told : {s : List ℕ} {cycle from h : ℕ} {eras : List ℕ} {ne : ℕ} {cells : List ℕ} {nc : ℕ} {held : List ℕ} → Ready s cycle from h eras ne cells nc held
+    → {dates : ℕ} (b e : ℕ) (row : List ℕ) → dates ≡ recordsThat s (headerLength s) h (datesHold b) → take (0 + nc) row ≡ listOf nc (maskIn cycle dates b e cells held)
+    → (c : ℕ) → c < nc → Told (getD row c 0)
+unfolding maskIn fieldMask
+row-told {s} {cycle} {h = h} {cells = cells} {nc} {held} ready {dates} b e row ed er c hc =
+    let q : getD row c 0 ≡ maskIn cycle dates b e cells held c
+    = sym (getD-take (0 + nc) row c 0 (omega arith)) ∙ ap (λ (l : List ℕ). getD l c 0) er ∙ get-listOf nc (maskIn cycle dates b e cells held) 0 c hc in
+    subst Told (sym q)
+    (mask-told (ltb (firstIn cycle b (getD cells c 0) (getD cells (c + 1) 0)) e) (intersection dates (getD held c 0))
+    (rw (ed, ready .in-cells .each c hc)
+    (hours-small s (headerLength s) h (datesHold b) (pairsHold (getD cells c 0)) (omega (arith, ready .hours-are, rota-fine s (ready .accepted) .header .hours-most)))))

@@ -11,10 +11,10 @@ use native.Mathlib.Numerals.{add-one}
 use lib.ListN.{length, getD, take, drop, set, replicate, length-drop, length-set, take-append-drop, replicate-append-replicate}
 use lib.Seq.{take-suc, drop-cons, take-take, drop-drop, getD-drop, getD-set-same, getD-set-other, slice-empty}
 use Rattle.ground.proofs.BoolLaws.{lt-or-le}
-use Rattle.derivation.specs.Kinds.{addMask, masksFrom, kindOf, kindsFrom}
+use Rattle.derivation.specs.Kinds.{addMask, masksFrom, kindOf, kindsFrom, masksIn}
 use Rattle.grid.specs.Stretches.{fieldKinds}
 use Rattle.grid.proofs.StretchLaws.{kinds-stored}
-use Rattle.kinds.specs.Kinds.{keys, Held, Found, RowRoom, Laid}
+use Rattle.kinds.specs.Kinds.{Held, Found, RowRoom, Laid}
 use Rattle.kinds.specs.declared.Kind.{Kind}
 use Rattle.kinds.proofs.KeyLaws.{masks-stretch, kinds-stretch}
 
@@ -47,11 +47,11 @@ left-is row c l n h a =
 
 -- ---- the loop over the stretches
 
-pub record Numbering (row : List ℕ) (n : ℕ) (kinds₀ lens₀ : List ℕ) (first : ℕ) (pairs₀ links₀ : List ℕ) (w d : ℕ) (kinds lens pairs links : List ℕ) (count j c : ℕ) : Type 0 where
+pub record Numbering (row : List ℕ) (n : ℕ) (kinds₀ lens₀ : List ℕ) (first : ℕ) (sets₀ links₀ : List ℕ) (w d : ℕ) (kinds lens sets links : List ℕ) (count j c : ℕ) : Type 0 where
   pub within : c ≤ n
-  pub kinds-so : fieldKinds kinds lens j ++ kindsFrom (keys count pairs) (drop c (take n row)) ≡ fieldKinds kinds₀ lens₀ first ++ kindsFrom (keys d pairs₀) (take n row)
-  pub masks-so : masksFrom (keys count pairs) (drop c (take n row)) ≡ masksFrom (keys d pairs₀) (take n row)
-  pub held : Held w count pairs links
+  pub kinds-so : fieldKinds kinds lens j ++ kindsFrom (masksIn sets count) (drop c (take n row)) ≡ fieldKinds kinds₀ lens₀ first ++ kindsFrom (masksIn sets₀ d) (take n row)
+  pub masks-so : masksFrom (masksIn sets count) (drop c (take n row)) ≡ masksFrom (masksIn sets₀ d) (take n row)
+  pub held : Held w count sets links
   pub some : (i : ℕ) → first ≤ i → i < j → 0 < getD lens i 0
   pub same-kinds : (i : ℕ) → i < first → getD kinds i 0 ≡ getD kinds₀ i 0
   pub same-lens : (i : ℕ) → i < first → getD lens i 0 ≡ getD lens₀ i 0
@@ -60,12 +60,12 @@ pub record Numbering (row : List ℕ) (n : ℕ) (kinds₀ lens₀ : List ℕ) (f
   pub most : count ≤ d + c
   pub long-kinds : length kinds ≡ length kinds₀
   pub long-lens : length lens ≡ length lens₀
-  pub long-pairs : length pairs ≡ length pairs₀
+  pub long-sets : length sets ≡ length sets₀
   pub long-links : length links ≡ length links₀
 
-pub numbering-start : (row : List ℕ) (n : ℕ) (kinds lens : List ℕ) (first : ℕ) (pairs links : List ℕ) (w d : ℕ) → Held w d pairs links
-    → Numbering row n kinds lens first pairs links w d kinds lens pairs links d first 0
-numbering-start row n kinds lens first pairs links w d h =
+pub numbering-start : (row : List ℕ) (n : ℕ) (kinds lens : List ℕ) (first : ℕ) (sets links : List ℕ) (w d : ℕ) → Held w d sets links
+    → Numbering row n kinds lens first sets links w d kinds lens sets links d first 0
+numbering-start row n kinds lens first sets links w d h =
     record {
       within = omega arith;
       kinds-so = refl;
@@ -79,17 +79,17 @@ numbering-start row n kinds lens first pairs links w d h =
       most = omega arith;
       long-kinds = refl;
       long-lens = refl;
-      long-pairs = refl;
+      long-sets = refl;
       long-links = refl;
     }
 
-module _ {row : List ℕ} {n : ℕ} {kinds₀ lens₀ : List ℕ} {first : ℕ} {pairs₀ links₀ : List ℕ} {w d : ℕ} {kinds lens pairs links : List ℕ} {count j c : ℕ}
-    (s : Numbering row n kinds₀ lens₀ first pairs₀ links₀ w d kinds lens pairs links count j c) (room : RowRoom n d first w row kinds₀ lens₀ pairs₀ links₀) where
+module _ {row : List ℕ} {n : ℕ} {kinds₀ lens₀ : List ℕ} {first : ℕ} {sets₀ links₀ : List ℕ} {w d : ℕ} {kinds lens sets links : List ℕ} {count j c : ℕ}
+    (s : Numbering row n kinds₀ lens₀ first sets₀ links₀ w d kinds lens sets links count j c) (room : RowRoom n d first w row kinds₀ lens₀ sets₀ links₀) where
   -- there is room for one more
   pub turn-room : c < n
-      → (2 * count + 1 < length pairs) × (w + 2 * count + 1 < length links) × (count < 33345) × (0 < w) × (w ≤ 65536)
+      → (count < length sets) × (w + 2 * count + 1 < length links) × (count < 33345) × (0 < w) × (w ≤ 65536)
   turn-room h = (
-    omega (arith, s .most, s .long-pairs, room .for-pairs),
+    omega (arith, s .most, s .long-sets, room .for-sets),
     omega (arith, s .most, s .long-links, room .for-links),
     omega (arith, s .most, room .few),
     room .some,
@@ -102,10 +102,10 @@ module _ {row : List ℕ} {n : ℕ} {kinds₀ lens₀ : List ℕ} {first : ℕ} 
   pub lens-room : c < n → j < length lens
   lens-room h = omega (arith, s .place, s .long-lens, room .for-lens)
 
-  pub numbering-turn : (pairs′ links′ : List ℕ) (l : ℕ) (k : Kind) → c < n → 0 < l → c + l ≤ n → Alike row c l
-      → Found (getD row c 0) count pairs pairs′ k → Held w (k .masks) pairs′ links′ → length pairs′ ≡ length pairs → length links′ ≡ length links
-      → Numbering row n kinds₀ lens₀ first pairs₀ links₀ w d (set kinds j (k .kind)) (set lens j l) pairs′ links′ (k .masks) (j + 1) (c + l)
-  numbering-turn pairs′ links′ l k h pos in-row alike f held lp ll =
+  pub numbering-turn : (sets′ links′ : List ℕ) (l : ℕ) (k : Kind) → c < n → 0 < l → c + l ≤ n → Alike row c l
+      → Found (getD row c 0) count sets sets′ k → Held w (k .masks) sets′ links′ → length sets′ ≡ length sets → length links′ ≡ length links
+      → Numbering row n kinds₀ lens₀ first sets₀ links₀ w d (set kinds j (k .kind)) (set lens j l) sets′ links′ (k .masks) (j + 1) (c + l)
+  numbering-turn sets′ links′ l k h pos in-row alike f held lp ll =
       record {
         within = in-row;
         kinds-so = kinds-turn ∙ s .kinds-so;
@@ -119,7 +119,7 @@ module _ {row : List ℕ} {n : ℕ} {kinds₀ lens₀ : List ℕ} {first : ℕ} 
         most = omega (arith, f .most, s .most);
         long-kinds = length-set kinds j (k .kind) ∙ s .long-kinds;
         long-lens = length-set lens j l ∙ s .long-lens;
-        long-pairs = lp ∙ s .long-pairs;
+        long-sets = lp ∙ s .long-sets;
         long-links = ll ∙ s .long-links;
       }
     where
@@ -138,22 +138,22 @@ module _ {row : List ℕ} {n : ℕ} {kinds₀ lens₀ : List ℕ} {first : ℕ} 
       here : (i : ℕ) → i ≡ j → 0 < getD (set lens j l) i 0
       here i e = rw e (rw (getD-set-same lens j l 0 (lens-room h)) pos)
 
-      masks-turn : masksFrom (keys (k .masks) pairs′) rest ≡ masksFrom (keys count pairs) (drop c (take n row))
+      masks-turn : masksFrom (masksIn sets′ (k .masks)) rest ≡ masksFrom (masksIn sets count) (drop c (take n row))
       masks-turn =
-          ap (λ (ds : List ℕ). masksFrom ds rest) (f .masks-then) ∙ sym (ap (masksFrom (keys count pairs)) left ∙ masks-stretch (keys count pairs) m rest l pos)
+          ap (λ (ds : List ℕ). masksFrom ds rest) (f .masks-then) ∙ sym (ap (masksFrom (masksIn sets count)) left ∙ masks-stretch (masksIn sets count) m rest l pos)
 
-      kinds-turn : fieldKinds (set kinds j (k .kind)) (set lens j l) (j + 1) ++ kindsFrom (keys (k .masks) pairs′) rest
-          ≡ fieldKinds kinds lens j ++ kindsFrom (keys count pairs) (drop c (take n row))
+      kinds-turn : fieldKinds (set kinds j (k .kind)) (set lens j l) (j + 1) ++ kindsFrom (masksIn sets′ (k .masks)) rest
+          ≡ fieldKinds kinds lens j ++ kindsFrom (masksIn sets count) (drop c (take n row))
       kinds-turn =
           ap₂ _++_
           (kinds-stored kinds lens j (k .kind) l (kinds-room h) (lens-room h) ∙ ap (λ (x : ℕ). fieldKinds kinds lens j ++ replicate l x) (f .kind-is))
           (ap (λ (ds : List ℕ). kindsFrom ds rest) (f .masks-then))
-          ∙ append-assoc (fieldKinds kinds lens j) (replicate l (kindOf (keys count pairs) m)) (kindsFrom (addMask (keys count pairs) m) rest)
+          ∙ append-assoc (fieldKinds kinds lens j) (replicate l (kindOf (masksIn sets count) m)) (kindsFrom (addMask (masksIn sets count) m) rest)
           ∙ ap (λ (q : List ℕ). fieldKinds kinds lens j ++ q)
-          (sym (ap (kindsFrom (keys count pairs)) left ∙ kinds-stretch (keys count pairs) m rest l pos))
+          (sym (ap (kindsFrom (masksIn sets count)) left ∙ kinds-stretch (masksIn sets count) m rest l pos))
 
   pub numbering-end : n ≤ c
-      → Laid (keys d pairs₀) row n first j kinds₀ lens₀ kinds lens × (keys count pairs ≡ masksFrom (keys d pairs₀) (take n row)) × Held w count pairs links
+      → Laid (masksIn sets₀ d) row n first j kinds₀ lens₀ kinds lens × (masksIn sets count ≡ masksFrom (masksIn sets₀ d) (take n row)) × Held w count sets links
       × (count ≤ d + n)
   numbering-end h =
       let e : c ≡ n = omega (arith, s .within) in
@@ -161,14 +161,14 @@ module _ {row : List ℕ} {n : ℕ} {kinds₀ lens₀ : List ℕ} {first : ℕ} 
         record {
           kinds-are =
               sym (append-nil (fieldKinds kinds lens j))
-              ∙ ap (λ (q : List ℕ). fieldKinds kinds lens j ++ q) (sym (ap (kindsFrom (keys count pairs)) none ∙ (unfold kindsFrom in refl))) ∙ s .kinds-so;
+              ∙ ap (λ (q : List ℕ). fieldKinds kinds lens j ++ q) (sym (ap (kindsFrom (masksIn sets count)) none ∙ (unfold kindsFrom in refl))) ∙ s .kinds-so;
           some = s .some;
           same-kinds = s .same-kinds;
           same-lens = s .same-lens;
           least = s .least;
           most = omega (arith, s .place);
         },
-        sym (ap (masksFrom (keys count pairs)) none ∙ (unfold masksFrom in refl)) ∙ s .masks-so,
+        sym (ap (masksFrom (masksIn sets count)) none ∙ (unfold masksFrom in refl)) ∙ s .masks-so,
         s .held,
         omega (arith, s .most),
       )

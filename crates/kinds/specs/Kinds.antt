@@ -3,12 +3,12 @@ use Prim.Native.Nat.{ℕ, _+_, _*_, _%_, _≤_, _<_}
 use mathlib.Core.Path.{_≡_}
 use mathlib.Core.List.{List, [], _++_, map}
 use lib.ListN.{length, getD, take}
-use Rattle.ground.specs.Sequence.{listOf}
+use Rattle.bitset.specs.Sets.{insert}
 use Rattle.rota.specs.RotaBytes.{rotaOf}
 use Rattle.derivation.specs.Rewriting.{fields}
 use Rattle.derivation.specs.Masks.{maskOf}
 use Rattle.derivation.specs.Kinds.{addMask, masksFrom, kindOf, kindsFrom, masksIn}
-use Rattle.trees.specs.Tree.{usersAt, permissionsAt, Indexed}
+use Rattle.trees.specs.Tree.{keyPairs, Indexed}
 use Rattle.grid.specs.Stretches.{fieldKinds, stretchCount, Stretched}
 use Rattle.kinds.specs.declared.Kind.{Kind}
 
@@ -16,29 +16,28 @@ use Rattle.kinds.specs.declared.Kind.{Kind}
 unfoldable pub masksOf : List ℕ → List ℕ
 masksOf s = map (maskOf (rotaOf s)) (fields (rotaOf s))
 
--- the distinct masks are kept as pairs of sets, of which the second is empty: the first d of them
-unfoldable pub keys : ℕ → List ℕ → List ℕ
-keys d pairs = listOf d (usersAt pairs)
+-- a mask can be told from its hours: it is 0, or has the bit for always, and hours below 32
+abbrev pub Told : ℕ → Type 0
+Told m = (m ≡ 0 → ⊥) → insert (m % 4294967296) 32 ≡ m
 
--- d of them with their index
-pub record Held (w d : ℕ) (pairs links : List ℕ) : Type 0 where
-  pub alone : (k : ℕ) → k < d → permissionsAt pairs k ≡ 0
-  pub indexed : Indexed w d pairs links 18446744073709551615 0
+-- the d distinct masks, without the bit for always, with their index
+abbrev pub Held : ℕ → ℕ → List ℕ → List ℕ → Type 0
+Held w d sets links = Indexed w d (keyPairs sets) links 4294967295 0
 
 -- mask m came to its kind
-pub record Found (m d : ℕ) (pairs pairs′ : List ℕ) (k : Kind) : Type 0 where
-  pub kind-is : k .kind ≡ kindOf (keys d pairs) m
-  pub masks-then : keys (k .masks) pairs′ ≡ addMask (keys d pairs) m
+pub record Found (m d : ℕ) (sets sets′ : List ℕ) (k : Kind) : Type 0 where
+  pub kind-is : k .kind ≡ kindOf (masksIn sets d) m
+  pub masks-then : masksIn sets′ (k .masks) ≡ addMask (masksIn sets d) m
   pub most : k .masks ≤ d + 1
   pub small : k .kind ≤ k .masks
 
 -- room for the stretches of n fields at `first`, with d distinct masks so far
-pub record RowRoom (n d first w : ℕ) (row kinds lens pairs links : List ℕ) : Type 0 where
+pub record RowRoom (n d first w : ℕ) (row kinds lens sets links : List ℕ) : Type 0 where
   pub for-row : n ≤ length row
   pub for-kinds : first + n ≤ length kinds
   pub for-lens : first + n ≤ length lens
   pub few : d + n ≤ 33345
-  pub for-pairs : 2 * (d + n) ≤ length pairs
+  pub for-sets : d + n ≤ length sets
   pub for-links : w + 2 * (d + n) ≤ length links
   pub some : 0 < w
   pub most : w ≤ 65536
@@ -53,26 +52,15 @@ pub record Laid (ds row : List ℕ) (n first end : ℕ) (kinds lens kinds′ len
   pub most : end ≤ first + n
 
 -- room for n fields of ne eras, with w trees
-pub record Room (n ne w : ℕ) (kinds lens ends pairs links : List ℕ) : Type 0 where
+pub record Room (n ne w : ℕ) (kinds lens ends sets links : List ℕ) : Type 0 where
   pub few : n ≤ 33345
   pub for-kinds : n ≤ length kinds
   pub for-lens : n ≤ length lens
   pub for-ends : ne < length ends
-  pub for-pairs : 2 * n ≤ length pairs
+  pub for-sets : n ≤ length sets
   pub for-links : w + 2 * n ≤ length links
   pub some : 0 < w
   pub most : w ≤ 65536
-
--- the kinds of all fields by stretches, and the d distinct masks as they stand in the index
-pub record NumberedTo (s : List ℕ) (ne nc d : ℕ) (kinds lens ends pairs : List ℕ) : Type 0 where
-  pub few : d ≤ ne * nc
-  pub stretched : Stretched ne nc kinds lens ends
-  pub kinds-are : fieldKinds kinds lens (stretchCount ends ne) ≡ kindsFrom [] (masksOf s)
-  pub masks-are : keys d pairs ≡ masksFrom [] (masksOf s)
-
--- mask k without the bit for always
-unfoldable pub bare : List ℕ → ℕ → ℕ
-bare pairs k = usersAt pairs k % 4294967296
 
 -- the kinds of all fields by stretches, and the hours of the d distinct masks
 pub record Numbered (s : List ℕ) (ne nc d : ℕ) (kinds lens ends sets : List ℕ) : Type 0 where

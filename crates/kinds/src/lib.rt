@@ -2,13 +2,12 @@
 // masks are numbered once for all roles, in the order of their first fields. A field without a minute is of kind 0, one with mask k of kind k + 1.
 // Neighbours of one era often have the same mask, so kinds are laid out by stretches: the kind of some neighbouring fields, and how many these are.
 ghost use mathlib.Core.Path.{_≡_};
-ghost use Prim.Native.Nat.{_+_, _*_, _≤_, _<_};
+ghost use Prim.Native.Nat.{ℕ, _+_, _*_, _≤_, _<_};
 ghost use lib.ListN.{length, getD, take, drop, replicate};
-ghost use Rattle.ground.specs.Sequence.{listOf};
 ghost use Rattle.rota.specs.Inside.{Located};
-ghost use Rattle.derivation.specs.Kinds.{masksFrom};
+ghost use Rattle.derivation.specs.Kinds.{masksFrom, masksIn};
 ghost use Rattle.grid.specs.Grid.{Parted, Ready};
-ghost use Rattle.kinds.specs.Kinds.{keys, Held, Found, RowRoom, Room, Laid, bare, Numbered, NumberedTo};
+ghost use Rattle.kinds.specs.Kinds.{Told, Held, Found, RowRoom, Room, Laid, Numbered};
 use rota::Layout;
 
 // The kind of a mask, and how many distinct masks there are with it.
@@ -44,16 +43,16 @@ fn stretch(row: &[u64], c: usize, n: usize) -> usize
     l
 }
 
-// The kind of mask m.
-fn kind_of(m: u64, pairs: &mut [u64], links: &mut [u16], w: usize, d: usize) -> Kind
-    requires { ⌜ (2 * d + 1 < length (now pairs)) × (w + 2 * d + 1 < length (now links)) × (d < 33345) × (0 < w) × (w ≤ 65536) ⌝ }
-    requires { ⌜ Held w d (now pairs) (now links) ⌝ }
-    ensures { λ k. ⌜ Found m d (now (pairs .entry)) (now (pairs .exit)) k × Held w (k .masks) (now (pairs .exit)) (now (links .exit)) ⌝ }
+// The kind of mask m. The distinct masks stand without the bit for always, which each of them has: so 32 bits tell them apart.
+fn kind_of(m: u64, sets: &mut [u32], links: &mut [u16], w: usize, d: usize) -> Kind
+    requires { ⌜ (d < length (now sets)) × (w + 2 * d + 1 < length (now links)) × (d < 33345) × (0 < w) × (w ≤ 65536) ⌝ }
+    requires { ⌜ Held w d (now sets) (now links) × Told m ⌝ }
+    ensures { λ k. ⌜ Found m d (now (sets .entry)) (now (sets .exit)) k × Held w (k .masks) (now (sets .exit)) (now (links .exit)) ⌝ }
 {
     if m == 0 {
         return Kind { kind: 0, masks: d };
     }
-    let k = index::enter(0, pairs, links, w, 18446744073709551615, 0, d, m, 0);
+    let k = index::enter_key(sets, links, w, d, (m % 4294967296) as u32);
     if k < d {
         return Kind {
             kind: k + 1,
@@ -73,15 +72,16 @@ fn number_row(
     kinds: &mut [u16],
     lens: &mut [u8],
     first: usize,
-    pairs: &mut [u64],
+    sets: &mut [u32],
     links: &mut [u16],
     w: usize,
     d: usize,
 ) -> EraNumbered
-    requires { ⌜ RowRoom n d first w (now row) (now kinds) (now lens) (now pairs) (now links) × Held w d (now pairs) (now links) ⌝ }
-    ensures { λ r. ⌜ Laid (keys d (now (pairs .entry))) (now (row .entry)) n first (r .end) (now (kinds .entry)) (now (lens .entry)) (now (kinds .exit)) (now (lens .exit))
-        × (keys (r .masks) (now (pairs .exit)) ≡ masksFrom (keys d (now (pairs .entry))) (take n (now (row .entry))))
-        × Held w (r .masks) (now (pairs .exit)) (now (links .exit)) × (r .masks ≤ d + n) ⌝ }
+    requires { ⌜ RowRoom n d first w (now row) (now kinds) (now lens) (now sets) (now links) ⌝ }
+    requires { ⌜ Held w d (now sets) (now links) × ((c : ℕ) → c < n → Told (getD (now row) c 0)) ⌝ }
+    ensures { λ r. ⌜ Laid (masksIn (now (sets .entry)) d) (now (row .entry)) n first (r .end) (now (kinds .entry)) (now (lens .entry)) (now (kinds .exit)) (now (lens .exit))
+        × (masksIn (now (sets .exit)) (r .masks) ≡ masksFrom (masksIn (now (sets .entry)) d) (take n (now (row .entry))))
+        × Held w (r .masks) (now (sets .exit)) (now (links .exit)) × (r .masks ≤ d + n) ⌝ }
 {
     let mut count = d;
     let mut j = first;
@@ -89,7 +89,7 @@ fn number_row(
     while c < n {
         let m = row[c];
         let l = stretch(row, c, n);
-        let k = kind_of(m, pairs, links, w, count);
+        let k = kind_of(m, sets, links, w, count);
         kinds[j] = k.kind as u16;
         lens[j] = l as u8;
         count = k.masks;
@@ -117,13 +117,13 @@ fn number_all(
     kinds: &mut [u16],
     lens: &mut [u8],
     ends: &mut [usize],
-    pairs: &mut [u64],
+    sets: &mut [u32],
     links: &mut [u16],
     w: usize,
 ) -> usize
     requires { ⌜ Ready (now s) cycle from h (now eras) ne (now cells) nc (now held) × (nc ≤ length (now row)) ⌝ }
-    requires { ⌜ Room (ne * nc) ne w (now kinds) (now lens) (now ends) (now pairs) (now links) × Held w 0 (now pairs) (now links) ⌝ }
-    ensures { λ d. ⌜ NumberedTo (now (s .entry)) ne nc d (now (kinds .exit)) (now (lens .exit)) (now (ends .exit)) (now (pairs .exit)) ⌝ }
+    requires { ⌜ Room (ne * nc) ne w (now kinds) (now lens) (now ends) (now sets) (now links) × Held w 0 (now sets) (now links) ⌝ }
+    ensures { λ d. ⌜ Numbered (now (s .entry)) ne nc d (now (kinds .exit)) (now (lens .exit)) (now (ends .exit)) (now (sets .exit)) ⌝ }
 {
     ends[0] = 0;
     let mut i = 0;
@@ -134,25 +134,13 @@ fn number_all(
         let e = eras[i + 1];
         let dates = grid::era_mask(s, from, h, b);
         grid::era_masks(cycle, dates, b, e, cells, nc, held, row, 0);
-        let r = number_row(row, nc, kinds, lens, first, pairs, links, w, d);
+        let r = number_row(row, nc, kinds, lens, first, sets, links, w, d);
         first = r.end;
         d = r.masks;
         i += 1;
         ends[i] = first;
     }
     d
-}
-
-// The d distinct masks, without the bit that each of them has for always.
-fn keep(pairs: &[u64], d: usize, sets: &mut [u32])
-    requires { ⌜ (2 * d ≤ length (now pairs)) × (d ≤ length (now sets)) ⌝ }
-    ensures { λ _. ⌜ take d (now (sets .exit)) ≡ listOf d (bare (now (pairs .entry))) ⌝ }
-{
-    let mut k = 0;
-    while k < d {
-        sets[k] = (pairs[2 * k] % 4294967296) as u32;
-        k += 1;
-    }
 }
 
 // Numbers the fields of a rota that is divided so: their kinds by stretches, and the distinct masks without the bit for always. How many these are.
@@ -169,19 +157,18 @@ pub fn number(
     lens: &mut [u8],
     ends: &mut [usize],
     sets: &mut [u32],
-    pairs: &mut [u64],
     links: &mut [u16],
     w: usize,
 ) -> usize
     requires { ⌜ Located (now s) l × Parted (now s) (now eras) ne (now cells) nc × (nc ≤ length (now held)) × (nc ≤ length (now row)) ⌝ }
-    requires { ⌜ Room (ne * nc) ne w (now kinds) (now lens) (now ends) (now pairs) (now links) × (ne * nc ≤ length (now sets)) ⌝ }
+    requires { ⌜ Room (ne * nc) ne w (now kinds) (now lens) (now ends) (now sets) (now links) ⌝ }
     ensures { λ d. ⌜ Numbered (now (s .entry)) ne nc d (now (kinds .exit)) (now (lens .exit)) (now (ends .exit)) (now (sets .exit)) ⌝ }
 {
     let n = l.counts;
     let h = n.hours as usize;
     grid::cell_masks(s, l.hours_at, h, cells, nc, held);
     index::clear(links, w);
-    let d = number_all(
+    number_all(
         s,
         n.cycle,
         l.hours_at,
@@ -195,10 +182,8 @@ pub fn number(
         kinds,
         lens,
         ends,
-        pairs,
+        sets,
         links,
         w,
-    );
-    keep(pairs, d, sets);
-    d
+    )
 }

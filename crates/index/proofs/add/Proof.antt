@@ -1,5 +1,4 @@
 -- One place of the links changes, the one at which the walk that seeks the new pair ended: every other walk is as it was.
-use native.Mathlib.Omega.{arith}
 use mathlib.Core.Path.{refl}
 use Rattle.index.specs.Entries.{withPair}
 use Rattle.index.proofs.LinkLaws.{index-add}

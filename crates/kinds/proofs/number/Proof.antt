@@ -1,9 +1,7 @@
 use native.Mathlib.Omega.{arith}
 use mathlib.Core.Path.{_∙_}
+use Rattle.trees.specs.Tree.{keyPairs}
 use Rattle.rota.proofs.LocatedLaws.{counted, hours-at}
-use Rattle.rota.proofs.RotaTheorems.{accepted-well}
-use Rattle.kinds.proofs.KeyLaws.{held-none}
-use Rattle.kinds.proofs.MaskLaws.{numbered}
 use borrow.Author.Needs.{needs}
 use Rattle.kinds.proofs.number.Statement.{statement}
 use Rattle.kinds.proofs.number.Tie as tie
@@ -12,18 +10,18 @@ cast-h : tie.Need-cast-h
 cast-h c = search needs
 
 cell-masks-requires : tie.Need-cell-masks-requires
-cell-masks-requires c κs = let p = c .before .before .before .before .before .before .before .before .before .before .before .before .before .before .pre .0 in (p .0 .accepted, hours-at _ _ (p .0), counted _ _ (p .0) .hours, omega (arith, p .1 .cell-cuts .long), p .2, p .1 .cell-cuts .rise)
+cell-masks-requires c κs = let p = c .before .before .before .before .before .before .before .before .before .before .before .before .before .pre .0 in (p .0 .accepted, hours-at _ _ (p .0), counted _ _ (p .0) .hours, omega (arith, p .1 .cell-cuts .long), p .2, p .1 .cell-cuts .rise)
 
 clear-requires : tie.Need-clear-requires
-clear-requires c κs = omega (arith, c .before .before .before .before .before .before .before .before .before .before .before .before .before .before .before .before .before .before .pre .1 .0 .for-links)
+clear-requires c κs = omega (arith, c .before .before .before .before .before .before .before .before .before .before .before .before .before .before .before .before .before .pre .1 .for-links)
 
 number-all-requires : tie.Need-number-all-requires
 number-all-requires c κs =
-    let p = c .before .before .before .before .before .before .before .before .before .before .before .before .before .before .before .before .before .before .before .before .before .before .before .before .before .before .before .before .pre in
+    let p = c .before .before .before .before .before .before .before .before .before .before .before .before .before .before .before .before .before .before .before .before .before .before .before .before .before .before .before .pre in
     let w = p .0 .0 in
     let d = p .0 .1 in
     let m = c .before .before .before .before .before .before .before .before .before .before .before .before .before .cell-masks in
-    let r = p .1 .0 in (
+    let r = p .1 in (
       (
         record {
           accepted = w .accepted;
@@ -43,47 +41,38 @@ number-all-requires c κs =
           for-kinds = r .for-kinds;
           for-lens = r .for-lens;
           for-ends = r .for-ends;
-          for-pairs = r .for-pairs;
+          for-sets = r .for-sets;
           for-links = omega (arith, r .for-links, c .before .before .before .before .before .before .before .before .before .clear .kept .0);
           some = r .some;
           most = r .most;
         },
-        held-none (c .before .before .before .before .before .before .before .before .before .clear .ensures _ _ _),
+        c .before .before .before .before .before .before .before .before .before .clear .ensures (keyPairs (c .before .before .before .before .before .before .before .before .before .before .before .before .before .before .before .before .before .before .before .before .before .before .before .before .before .before .before .args .sets .now)) 4294967295 0,
       ),
     )
 
-keep-requires : tie.Need-keep-requires
-keep-requires c κs = let p = c .before .before .before .before .before .before .before .before .before .before .before .before .before .before .before .before .before .before .before .before .before .before .before .before .before .before .before .before .before .before .before .before .before .before .before .before .before .before .before .before .before .before .before .pre .1 in let n = c .before .before .before .before .before .before .before .before .before .before .before .before .before .before .number-all in (
-  omega (arith, n .ensures .few, p .0 .for-pairs, n .kept .1 .1 .1 .1 .1 .1 .1 .1 .1 .1 .1 .1 .1 .0),
-  omega (arith, n .ensures .few, p .1),
-)
-
 same-length : tie.Need-same-length
-same-length c = c .before .before .before .before .before .before .before .before .before .before .before .before .before .before .before .before .before .before .before .before .before .before .before .before .before .before .before .before .before .before .before .cell-masks .kept .1 .1 .1 .1 .1 .0
+same-length c = c .before .before .before .before .before .before .before .before .before .before .before .before .before .before .before .before .before .before .before .before .before .before .before .before .before .before .cell-masks .kept .1 .1 .1 .1 .1 .0
 
 same-length-2 : tie.Need-same-length-2
-same-length-2 c = c .before .before .before .before .before .before .before .before .before .before .before .before .before .before .before .before .before .number-all .kept .1 .1 .1 .1 .1 .1 .1 .1 .1 .0
+same-length-2 c = c .before .before .before .before .before .before .before .before .before .before .before .before .number-all .kept .1 .1 .1 .1 .1 .1 .1 .1 .1 .0
 
 same-length-3 : tie.Need-same-length-3
-same-length-3 c = c .before .before .before .before .before .before .before .before .before .before .before .before .before .before .before .before .before .number-all .kept .1 .1 .1 .1 .1 .1 .1 .1 .1 .1 .0
+same-length-3 c = c .before .before .before .before .before .before .before .before .before .before .before .before .number-all .kept .1 .1 .1 .1 .1 .1 .1 .1 .1 .1 .0
 
 same-length-4 : tie.Need-same-length-4
-same-length-4 c = c .before .before .before .before .before .before .before .before .before .before .before .before .before .before .before .before .before .number-all .kept .1 .1 .1 .1 .1 .1 .1 .1 .1 .1 .1 .0
+same-length-4 c = c .before .before .before .before .before .before .before .before .before .before .before .before .number-all .kept .1 .1 .1 .1 .1 .1 .1 .1 .1 .1 .1 .0
 
 same-length-5 : tie.Need-same-length-5
-same-length-5 c = c .before .before .before .before .before .before .before .before .before .before .before .before .before .before .before .before .before .number-all .kept .1 .1 .1 .1 .1 .1 .1 .1 .1 .1 .1 .1 .0
+same-length-5 c = c .before .before .before .before .before .before .before .before .before .before .before .before .number-all .kept .1 .1 .1 .1 .1 .1 .1 .1 .1 .1 .1 .1 .0
 
 same-length-6 : tie.Need-same-length-6
-same-length-6 c = c .before .before .keep .kept .1 .1 .0
+same-length-6 c = c .before .before .before .before .before .before .before .before .before .before .before .before .number-all .kept .1 .1 .1 .1 .1 .1 .1 .1 .1 .1 .1 .1 .1 .0
 
 same-length-7 : tie.Need-same-length-7
-same-length-7 c = c .before .before .before .before .before .before .before .before .before .before .before .before .before .before .before .before .before .number-all .kept .1 .1 .1 .1 .1 .1 .1 .1 .1 .1 .1 .1 .1 .0
-
-same-length-8 : tie.Need-same-length-8
-same-length-8 c = c .before .before .before .before .before .before .before .before .before .before .before .before .before .before .before .before .before .number-all .kept .1 .1 .1 .1 .1 .1 .1 .1 .1 .1 .1 .1 .1 .1 .0 ∙ c .before .before .before .before .before .before .before .before .before .before .before .before .before .before .before .before .before .before .before .before .before .before .before .before .before .before .before .clear .kept .0
+same-length-7 c = c .before .before .before .before .before .before .before .before .before .before .before .before .number-all .kept .1 .1 .1 .1 .1 .1 .1 .1 .1 .1 .1 .1 .1 .1 .0 ∙ c .before .before .before .before .before .before .before .before .before .before .before .before .before .before .before .before .before .before .before .before .before .before .clear .kept .0
 
 returns : tie.Need-returns
-returns c = numbered _ _ _ (accepted-well _ (c .before .before .before .before .before .before .before .before .before .before .before .before .before .before .before .before .before .before .before .before .before .before .before .before .before .before .before .before .before .before .before .before .before .before .before .before .before .before .before .before .before .before .before .before .before .before .pre .0 .0 .accepted) .hours-most) (c .before .before .before .before .before .before .before .before .before .before .before .before .before .before .before .before .before .number-all .ensures) (c .before .before .keep .ensures)
+returns c = c .before .before .before .before .before .before .before .before .before .before .before .before .number-all .ensures
 
 pub number-spec : {M : Type 1} → statement M
 number-spec =
@@ -93,7 +82,6 @@ number-spec =
     cell-masks-requires
     clear-requires
     number-all-requires
-    keep-requires
     same-length
     same-length-2
     same-length-3
@@ -101,5 +89,4 @@ number-spec =
     same-length-5
     same-length-6
     same-length-7
-    same-length-8
     returns)

@@ -3,15 +3,16 @@ use Prim.Native.Nat.{_-_}
 use mathlib.Core.Path.{refl, _∙_}
 use lib.ListN.{length-set}
 use Rattle.rota.proofs.RotaFine.{rota-fine}
+use Rattle.kinds.proofs.MaskLaws.{row-told}
 use Rattle.kinds.proofs.EraLaws.{Long, Passed, passed-none, row-room, end-room, passed-more, passed-all}
 use Rattle.kinds.proofs.number_all.Statement.{statement}
 use Rattle.kinds.proofs.number_all.Tie as tie
 
 abbrev Inv-loop : tie.InvT-loop
-Inv-loop s cycle from h eras ne cells nc held row₀ kinds₀ lens₀ ends₀ pairs₀ links₀ w i₀ first₀ d₀ row kinds lens ends pairs links i first d = Passed s eras ne nc w kinds lens ends pairs links i first d × Long row₀ kinds₀ lens₀ ends₀ pairs₀ links₀ row kinds lens ends pairs links
+Inv-loop s cycle from h eras ne cells nc held row₀ kinds₀ lens₀ ends₀ sets₀ links₀ w i₀ first₀ d₀ row kinds lens ends sets links i first d = Passed s eras ne nc w kinds lens ends sets links i first d × Long row₀ kinds₀ lens₀ ends₀ sets₀ links₀ row kinds lens ends sets links
 
 abbrev μ-loop : tie.MeasureT-loop
-μ-loop s cycle from h eras ne cells nc held row₀ kinds₀ lens₀ ends₀ pairs₀ links₀ w i₀ first₀ d₀ row kinds lens ends pairs links i first d = ne - i
+μ-loop s cycle from h eras ne cells nc held row₀ kinds₀ lens₀ ends₀ sets₀ links₀ w i₀ first₀ d₀ row kinds lens ends sets links i first d = ne - i
 
 slice-write-ends : tie.Need-slice-write-ends Inv-loop μ-loop
 slice-write-ends c = omega (arith, c .before .before .before .before .before .before .before .before .before .before .pre .1 .0 .for-ends)
@@ -21,7 +22,7 @@ loop-holds c =
     let a = c .before .before .before .before .before .before .before .before .before .before .args in
     let p = c .before .before .before .before .before .before .before .before .before .before .pre .1 in (
       passed-none _ _ _ _ _ _ _ (a .ends .now) _ _ (omega (arith, p .0 .for-ends)) (p .1),
-      record { of-row = refl; of-kinds = refl; of-lens = refl; of-ends = refl; of-pairs = refl; of-links = refl },
+      record { of-row = refl; of-kinds = refl; of-lens = refl; of-ends = refl; of-sets = refl; of-links = refl },
     )
 
 mul-b : tie.Need-mul-b Inv-loop μ-loop
@@ -62,7 +63,7 @@ number-row-requires c κs =
     let p = c .before .before .before .before .before .before .before .before .before .before .before .before .before .before .before .before .before .before .before .before .before .before .before .before .pre in
     let l = c .before .before .before .before .before .before .before .before .before .before .before .before .before .loop in
     let g = l .inv .1 in
-    (row-room (l .inv .0) (a .row .now) (a .kinds .now) (a .lens .now) (a .ends .now) (a .pairs .now) (a .links .now) _ (c .before .before .before .before .before .before .before .before .before .before .before .before .loop-test .taken) (p .0 .1) (p .1 .0) (record { of-row = c .before .before .before .before .before .before .before .era-masks .kept .1 .1 .1 .1 .1 .1 .1 .0 ∙ g .of-row; of-kinds = g .of-kinds; of-lens = g .of-lens; of-ends = g .of-ends; of-pairs = g .of-pairs; of-links = g .of-links }), l .inv .0 .held)
+    (row-room (l .inv .0) (a .row .now) (a .kinds .now) (a .lens .now) (a .ends .now) (a .sets .now) (a .links .now) _ (c .before .before .before .before .before .before .before .before .before .before .before .before .loop-test .taken) (p .0 .1) (p .1 .0) (record { of-row = c .before .before .before .before .before .before .before .era-masks .kept .1 .1 .1 .1 .1 .1 .1 .0 ∙ g .of-row; of-kinds = g .of-kinds; of-lens = g .of-lens; of-ends = g .of-ends; of-sets = g .of-sets; of-links = g .of-links }), (l .inv .0 .held, row-told (p .0 .0) _ _ _ (c .before .before .before .before .before .before .before .before .before .era-mask .ensures) (c .before .before .before .before .before .before .before .era-masks .ensures)))
 
 add-i : tie.Need-add-i Inv-loop μ-loop
 add-i c = omega (arith, c .before .before .before .before .before .before .before .before .before .before .before .before .before .before .before .before .before .before .before .before .before .loop-test .taken, c .before .before .before .before .before .before .before .before .before .before .before .before .before .before .before .before .before .before .before .before .before .before .before .before .before .before .before .before .before .before .before .before .before .fits .ne .fits)
@@ -93,7 +94,7 @@ loop-again c =
         of-kinds = n .kept .1 .1 .0 ∙ g .of-kinds;
         of-lens = n .kept .1 .1 .1 .0 ∙ g .of-lens;
         of-ends = length-set (l .ends) _ _ ∙ g .of-ends;
-        of-pairs = n .kept .1 .1 .1 .1 .1 .0 ∙ g .of-pairs;
+        of-sets = n .kept .1 .1 .1 .1 .1 .0 ∙ g .of-sets;
         of-links = n .kept .1 .1 .1 .1 .1 .1 .0 ∙ g .of-links;
       },
     )
@@ -111,7 +112,7 @@ same-length-4 : tie.Need-same-length-4 Inv-loop μ-loop
 same-length-4 c = c .before .loop .inv .1 .of-ends ∙ length-set (c .before .before .before .before .before .before .before .before .before .before .before .before .args .ends .now) 0 0
 
 same-length-5 : tie.Need-same-length-5 Inv-loop μ-loop
-same-length-5 c = c .before .loop .inv .1 .of-pairs
+same-length-5 c = c .before .loop .inv .1 .of-sets
 
 same-length-6 : tie.Need-same-length-6 Inv-loop μ-loop
 same-length-6 c = c .before .loop .inv .1 .of-links

@@ -5,13 +5,13 @@ use Rattle.kinds.proofs.number_row.Statement.{statement}
 use Rattle.kinds.proofs.number_row.Tie as tie
 
 abbrev Inv-loop : tie.InvT-loop
-Inv-loop row n kinds₀ lens₀ first pairs₀ links₀ w d count₀ j₀ c₀ kinds lens pairs links count j c = Numbering row n kinds₀ lens₀ first pairs₀ links₀ w d kinds lens pairs links count j c
+Inv-loop row n kinds₀ lens₀ first sets₀ links₀ w d count₀ j₀ c₀ kinds lens sets links count j c = Numbering row n kinds₀ lens₀ first sets₀ links₀ w d kinds lens sets links count j c
 
 abbrev μ-loop : tie.MeasureT-loop
-μ-loop row n kinds₀ lens₀ first pairs₀ links₀ w d count₀ j₀ c₀ kinds lens pairs links count j c = n - c
+μ-loop row n kinds₀ lens₀ first sets₀ links₀ w d count₀ j₀ c₀ kinds lens sets links count j c = n - c
 
 loop-holds : tie.Need-loop-holds Inv-loop μ-loop
-loop-holds c = numbering-start _ _ _ _ _ _ _ _ _ (c .before .before .before .before .before .pre .1)
+loop-holds c = numbering-start _ _ _ _ _ _ _ _ _ (c .before .before .before .before .before .pre .1 .0)
 
 mul-m : tie.Need-mul-m Inv-loop μ-loop
 mul-m c = omega (arith, c .before .before .before .before .before .before .before .pre .0 .for-row)
@@ -23,7 +23,7 @@ stretch-requires : tie.Need-stretch-requires Inv-loop μ-loop
 stretch-requires c κs = (c .before .loop-test .taken, c .before .before .before .before .before .before .before .before .pre .0 .for-row)
 
 kind-of-requires : tie.Need-kind-of-requires Inv-loop μ-loop
-kind-of-requires c κs = let l = c .before .before .before .before .before .loop in (turn-room (l .inv) (c .before .before .before .before .before .before .before .before .before .before .before .pre .0) (c .before .before .before .before .loop-test .taken), l .inv .held)
+kind-of-requires c κs = let l = c .before .before .before .before .before .loop in (turn-room (l .inv) (c .before .before .before .before .before .before .before .before .before .before .before .pre .0) (c .before .before .before .before .loop-test .taken), (l .inv .held, c .before .before .before .before .before .before .before .before .before .before .before .pre .1 .1 (l .c) (c .before .before .before .before .loop-test .taken)))
 
 cast-kinds : tie.Need-cast-kinds Inv-loop μ-loop
 cast-kinds c = let k = c .before .before .before .before .before .kind-of in omega (arith, k .ensures .0 .small, k .ensures .0 .most, turn-room (c .before .before .before .before .before .before .before .before .before .before .before .loop .inv) (c .before .before .before .before .before .before .before .before .before .before .before .before .before .before .before .before .before .pre .0) (c .before .before .before .before .before .before .before .before .before .before .loop-test .taken) .2)
@@ -63,7 +63,7 @@ same-length-2 : tie.Need-same-length-2 Inv-loop μ-loop
 same-length-2 c = c .before .loop .inv .long-lens
 
 same-length-3 : tie.Need-same-length-3 Inv-loop μ-loop
-same-length-3 c = c .before .loop .inv .long-pairs
+same-length-3 c = c .before .loop .inv .long-sets
 
 same-length-4 : tie.Need-same-length-4 Inv-loop μ-loop
 same-length-4 c = c .before .loop .inv .long-links
