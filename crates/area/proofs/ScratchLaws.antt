@@ -14,14 +14,14 @@ use Rattle.area.specs.Parts.{Scratch}
 
 module _ {n nc most : ℕ} {held row kinds lens masks pairs marks links : List ℕ} (s : Scratch n nc most held row kinds lens masks pairs marks links) where
   -- for numbering the fields, with w trees
-  pub number-room : {w ne : ℕ} {ends : List ℕ} → 0 < w → w ≤ most → ne < length ends → numbering.Room n ne w kinds lens ends pairs links
+  pub number-room : {w ne : ℕ} {ends : List ℕ} → 0 < w → w ≤ most → ne < length ends → numbering.Room n ne w kinds lens ends masks links
   number-room h l e =
       record {
         few = s .few;
         for-kinds = s .for-kinds;
         for-lens = s .for-lens;
         for-ends = e;
-        for-pairs = s .for-pairs;
+        for-sets = s .for-masks;
         for-links = omega (arith, s .for-links);
         some = h;
         most = omega (arith, s .trees);

@@ -182,7 +182,6 @@ pub fn rewrite_with(
         lens,
         &mut ends,
         masks,
-        pairs,
         links,
         all,
     );
