@@ -1,7 +1,7 @@
 -- What a mask takes is among what all slots in use have.
 -- Assumes nothing.
 use Prim.Native.Nat.{ℕ, _≤_, _<_}
-use mathlib.Core.Path.{_≡_, sym, _∙_, ap, subst}
+use mathlib.Core.Path.{_≡_, sym, _∙_, ap}
 use mathlib.Core.Bool.{true, _&&_}
 use mathlib.Core.Logic.{⊎-elim}
 use mathlib.Core.List.{List}
@@ -28,6 +28,3 @@ union-within sets m = record { fits = union-lt m sets 33; members = λ j e. ther
         ∙ any-stop (λ i. has (usedIn sets) i && has (getD sets i 0) j) 33 (k .0) (k .1)
         (and-both (has (usedIn sets) (k .0)) (has (getD sets (k .0) 0) j)
         (used-at sets (k .0) (k .1) ∙ in-use sets (k .0) (λ z. clash (has 0 j) (ap (λ (y : ℕ). has y j) (sym z) ∙ q) (has-none j))) q)
-
-pub within-all : {x : ℕ} (sets : List ℕ) (s a : ℕ) → s ≡ usedIn sets → a ≡ unionOf sets s 33 → Within x (unionOf sets (usedIn sets) 33) → Within x a
-within-all {x} sets s a es ea w = subst (Within x) (sym (ea ∙ ap (λ (m : ℕ). unionOf sets m 33) es)) w
