@@ -60,6 +60,16 @@ pub fn run_of_a_whole_cycle() -> Worked {
     worked(&hours, &[HoursRef::Always]).gives(1, &[(0, 0, END, 0, 10)])
 }
 
+/// 513 cells are one row, in an era in which one set of hours holds in all of them, and in one in
+/// which it changes at each.
+pub fn run_of_513_cells() -> Worked {
+    let every_other: Vec<_> = (0..256).map(|i| (2 * i, 1)).collect();
+    let hours = [Hours::new(0, 600, &every_other)];
+    let mut worked = worked(&hours, &[HoursRef::Always]);
+    worked.rota.cycle = 600;
+    worked.gives(1, &[(0, 0, 600, 0, 600), (0, 600, END, 0, 600)])
+}
+
 /// In the era from 8 to 14 no minute has its remainder in the cell from 4 to 8; those before and
 /// after it are two rows.
 pub fn cell_without_a_minute() -> Worked {
@@ -100,10 +110,11 @@ pub fn two_roles() -> Worked {
 }
 
 /// All of these by name.
-pub fn all_worked() -> [(&'static str, Worked); 7] {
+pub fn all_worked() -> [(&'static str, Worked); 8] {
     [
         ("run of three", run_of_three()),
         ("run of a whole cycle", run_of_a_whole_cycle()),
+        ("run of 513 cells", run_of_513_cells()),
         ("cell without a minute", cell_without_a_minute()),
         ("two eras", two_eras()),
         ("round the cycle", round_the_cycle()),

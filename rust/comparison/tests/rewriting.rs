@@ -84,6 +84,7 @@ fn compare_worked(name: &'static str, worked: Worked) {
 fn runs_of_three_and_more_cells() {
     compare_worked("runs_of_three_and_more_cells", joining::run_of_three());
     compare_worked("runs_of_three_and_more_cells", joining::run_of_a_whole_cycle());
+    compare_worked("runs_of_three_and_more_cells", joining::run_of_513_cells());
 }
 
 #[test]
