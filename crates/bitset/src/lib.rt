@@ -1,6 +1,6 @@
 // Sets of the numbers 0 to 63, as the bits of a u64.
 ghost use mathlib.Core.Path.{_≡_};
-ghost use Prim.Native.Nat.{_<_, _≤_, _^_};
+ghost use Prim.Native.Nat.{ℕ, _<_, _≤_, _^_};
 ghost use lib.Dec.{eqb, ltb};
 ghost use Rattle.bitset.specs.Sets.{has, insert, remove, union, intersection, difference, count, Lowest};
 
@@ -73,6 +73,14 @@ pub fn lowest(set: u64) -> u32
     ensures { λ r. ⌜ Lowest set r × (r < 64) ⌝ }
 {
     u64::trailing_zeros(set)
+}
+
+// A set that is not empty, without its lowest member: one less borrows from that member and fills what is below it.
+pub fn without_lowest(set: u64) -> u64
+    requires { ⌜ 0 < set ⌝ }
+    ensures { λ r. ⌜ ((i : ℕ) → Lowest set i → r ≡ remove set i) ⌝ }
+{
+    set & (set - 1)
 }
 
 // Whether every member is below n.
