@@ -12,11 +12,13 @@ ghost use Rattle.table.specs.Table.{policyOf as tablePolicy};
 ghost use Rattle.table.specs.TableBytes.{tableOf};
 ghost use Rattle.table.specs.TableRefusals.{tableJudged};
 ghost use Rattle.table.specs.Answers.{readOutcome as tableRead};
+ghost use Rattle.board.specs.Board.{boardTold, boardOutcome};
 ghost use Rattle.derivation.specs.Rewriting.{rewriteOutcome, areaAfter};
 ghost use Rattle.lent.specs.declared.Kind.the-variants as Kind;
 ghost use Rattle.machine.specs.Machine.{advance, «open», close, ask};
 ghost use Rattle.service.specs.LentStep.{lentStep};
 ghost use Rattle.told.specs.Told.{questionTold, nextTold, leaving, steppedBy, rotaTold, tableTold, writtenTold, dateTold, minuteTold};
+use board::Board;
 use machine::Service;
 use told::DateTold;
 use told::MinuteTold;
@@ -89,6 +91,14 @@ pub extern "C" fn softlode_table_next(s: &[u8], u: u32, p: u32, m: u32) -> NextT
     ensures { λ r. ⌜ r ≡ nextTold (nextUseQuestion (tableJudged (now (s .entry))) (tablePolicy (tableOf (now (s .entry)))) u p m) ⌝ }
 {
     told::tell_next(table_times::next_use(s, u, p, m))
+}
+
+// The staff board of a minute, by a table.
+#[no_mangle]
+pub extern "C" fn softlode_table_board(s: &[u8], t: u32) -> Board
+    ensures { λ r. ⌜ r ≡ boardTold (boardOutcome (now (s .entry)) t) ⌝ }
+{
+    board::board_at(s, t)
 }
 
 // The four calls on a lent record, with a rota and with a table.
