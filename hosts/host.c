@@ -19,6 +19,7 @@ _Static_assert(sizeof(softlode_table) == 28 && offsetof(softlode_table, rows) ==
 _Static_assert(sizeof(softlode_written) == 24 && offsetof(softlode_written, length) == 16, "softlode_written");
 _Static_assert(sizeof(softlode_told) == 12 && offsetof(softlode_told, value) == 8, "softlode_told");
 _Static_assert(sizeof(softlode_next) == 12 && offsetof(softlode_next, minute) == 8, "softlode_next");
+_Static_assert(sizeof(softlode_board) == 520 && offsetof(softlode_board, rights) == 8, "softlode_board");
 _Static_assert(sizeof(softlode_service) == 16 && offsetof(softlode_service, open) == 8, "softlode_service");
 _Static_assert(sizeof(softlode_date_time) == 28 && offsetof(softlode_date_time, minute) == 24, "softlode_date_time");
 _Static_assert(sizeof(softlode_minute_number) == 8 && offsetof(softlode_minute_number, minute) == 4, "softlode_minute_number");
@@ -139,7 +140,7 @@ static void spend_hour(struct host *host, softlode_rota counts, uint32_t minute)
 }
 
 /* Who may use each right at a minute, by questions without a service. */
-static void show_board(const struct host *host, softlode_rota counts, uint32_t minute) {
+static void show_users(const struct host *host, softlode_rota counts, uint32_t minute) {
     for (uint32_t right = 0; right < counts.rights; right++) {
         show_date(minute);
         printf(" right %" PRIu32 " may be used by", right);
@@ -147,6 +148,27 @@ static void show_board(const struct host *host, softlode_rota counts, uint32_t m
             if (question(host, volunteer, right, minute).yes) printf(" %" PRIu32, volunteer);
         printf("\n");
     }
+}
+
+/* The staff board of a minute, as a screen in the hall shows it: who is on, and with which rights. Single questions must say the same. */
+static void show_board(const struct host *host, softlode_rota counts, uint32_t minute) {
+    softlode_board board = softlode_table_board(host->table, host->table_length, minute);
+    int is_anyone = 0;
+    show_date(minute);
+    printf(" staff board, by %" PRIu32 " rows of the table:\n", board.rows);
+    for (uint32_t volunteer = 0; volunteer < counts.volunteers; volunteer++) {
+        uint64_t rights = board.rights[volunteer];
+        if (rights != 0) {
+            printf("  volunteer %" PRIu32 " may use", volunteer);
+            is_anyone = 1;
+        }
+        for (uint32_t right = 0; right < counts.rights; right++) {
+            if ((rights >> right & 1) != question(host, volunteer, right, minute).yes) fail(1, "the board and a question disagree", "");
+            if (rights >> right & 1) printf(" %" PRIu32, right);
+        }
+        if (rights != 0) printf("\n");
+    }
+    printf(is_anyone ? "  nobody else may use a right\n" : "  nobody may use a right\n");
 }
 
 static void show_when(uint32_t minute, const char *after) {
@@ -186,6 +208,7 @@ static void show_refusals(struct host *host, uint8_t *rota) {
     show_refusal("an area of 8 bytes: ", softlode_rewrite(rota, host->rota_length, small, sizeof small).refusal);
     show_refusal("the table without its last byte: ", softlode_table_read(host->table, host->table_length - 1).refusal);
     show_refusal("the next use by volunteer 256: ", softlode_table_next(host->table, host->table_length, 256, 0, 0).refusal);
+    show_refusal("the board of minute 210379680: ", softlode_table_board(host->table, host->table_length, 210379680).refusal);
     show_refusal("an open of volunteer 256: ", open_session(host, 256).refusal);
     show_refusal("an advance to minute 0: ", advance(host, 0).refusal);
     show_refusal("29 February 2023: ", softlode_minute(2023, 2, 29, 0, 0).refusal);
@@ -210,7 +233,8 @@ int main(int argc, char **argv) {
 
     uint32_t monday = softlode_minute(2024, 2, 26, 0, 0).minute;
     for (uint32_t hour = 0; hour < 7 * 24; hour++) spend_hour(&host, counts, monday + HOUR * hour);
-    show_board(&host, counts, monday + 2 * DAY + 11 * HOUR);
+    show_users(&host, counts, monday + 2 * DAY + 11 * HOUR);
+    show_board(&host, counts, monday + 6 * DAY + 14 * HOUR);
     show_next(&host, counts, monday + 7 * DAY);
     show_refusals(&host, rota);
     printf("%u advances closed %u; %u opens, %u closes, %u yes, %u no, %u refused; at ", host.advances, host.closed, host.opens, host.closes,

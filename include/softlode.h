@@ -32,6 +32,7 @@
  *   reading a table    21, 22, 23, 24, 25; then each derived role in turn 26; then each row in turn 27, 28
  *   a question         those of the bytes, then 33, 34, 35
  *   the next use       those of a table, then 33, 34, 35
+ *   the staff board    those of a table, then 33
  *   a service call     those of the bytes, then 40; then advance 33, 41; open 34, 42, 43; close 34, 44; ask 34, 35, 44
  *   the calendar       33 for a minute; 50 for a date and time
  */
@@ -90,6 +91,13 @@ typedef struct softlode_next {
     uint32_t minute;      /* the first such minute; 0 for none */
 } softlode_next;
 
+/* The staff board: what everyone may use at a minute. */
+typedef struct softlode_board {
+    uint32_t refusal;
+    uint32_t rows;        /* rows of the table that enable their derived role then */
+    uint64_t rights[64];  /* the set of rights of each volunteer; empty past the last volunteer */
+} softlode_board;
+
 /*
  * The service record. The host keeps one, starts it as { 0, 0 }, and lends it to each call: no call needs another. Its two fields may be
  * read, stored and restored at any time between calls (the bytes between them mean nothing); a record that does not fit the lent bytes is
@@ -133,6 +141,12 @@ softlode_told softlode_table_question(const uint8_t *table, size_t length, uint3
  * ahead that minute is.
  */
 softlode_next softlode_table_next(const uint8_t *table, size_t length, uint32_t volunteer, uint32_t right, uint32_t minute);
+
+/*
+ * The staff board of the minute, by the table: each volunteer's set has the rights for which a question would be a yes, and no other; or the
+ * table's refusals, 33. It takes little longer than one question.
+ */
+softlode_board softlode_table_board(const uint8_t *table, size_t length, uint32_t minute);
 
 /*
  * Rewrites a rota to its table, at the start of the output area. Bytes of the area past the table's length stay as they are. 1 to 12, or 20

@@ -25,12 +25,13 @@ const fn kind(name: &'static str, share: u64, compare: fn(&mut Case, &mut Tally)
     Kind { name, share, compare }
 }
 
-const KINDS: [Kind; 23] = [
+const KINDS: [Kind; 24] = [
     kind("rota well formed", 170, rota::well_formed),
     kind("rota several faults", 200, rota::several_faults),
     kind("rota any bytes", 50, rota::any_bytes),
-    kind("table by hand", 120, table::by_hand),
+    kind("table by hand", 100, table::by_hand),
     kind("table next uses", 30, table::next_uses),
+    kind("table boards", 20, table::boards),
     kind("table rewritten", 30, table::rewritten),
     kind("table several faults", 150, table::several_faults),
     kind("table huge counts", 10, table::huge_counts),

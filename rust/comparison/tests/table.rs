@@ -4,6 +4,7 @@ use cases::case::{Case, Tally, tallied};
 use cases::{data, generate};
 use comparison::compare::asked::{self, compare_question, compare_read};
 use comparison::compare::table::{self, compare_next_use};
+use comparison::ffi::table::Board;
 use comparison::{expected, ffi};
 use reference::END;
 use reference::rewriting;
@@ -156,6 +157,8 @@ fn largest_rewritten_tables() {
             let expected = expected::table::next_use(&lent.parsed, user, permission, t);
             let proved = ffi::table::next_use(&lent.bytes, user, permission, t);
             assert_eq!(proved, expected, "seed {} case {number} from {t}", case.seed);
+            let expected = expected::table::board(&lent.parsed, t);
+            assert_eq!(ffi::table::board(&lent.bytes, t), expected, "case {number} minute {t}");
         }
     }
     tally.reached([0]);
@@ -287,4 +290,86 @@ fn next_uses_minute_by_minute() {
 fn next_uses_at_and_over_their_limits() {
     tallied("next_uses_at_and_over_their_limits", 100, asked::at_and_over_limits(compare_next_use))
         .reached([0, 33, 34, 35]);
+}
+
+/// The rows of a board, and its sets up to the last that has a right.
+fn board(table: &Table, t: u32) -> (u32, Vec<u64>) {
+    let bytes = table.encode();
+    let board = ffi::table::board(&bytes, t);
+    assert_eq!(board, expected::table::board(&Ok(table.clone()), t));
+    assert_eq!(board.refusal, 0);
+    let used = board.rights.iter().rposition(|&rights| rights != 0).map_or(0, |last| last + 1);
+    (board.rows, board.rights[..used].to_vec())
+}
+
+#[test]
+fn worked_boards() {
+    for table in [small(), unjoined_small()] {
+        assert_eq!(board(&table, 3), (1, vec![1]));
+        assert_eq!(board(&table, 12), (1, vec![1, 1]));
+        assert_eq!(board(&table, 37), (0, vec![]));
+        assert_eq!(board(&table, END - 1), (0, vec![]));
+        let bytes = table.encode();
+        let refused = |refusal| Board { refusal, rows: 0, rights: [0; 64] };
+        for t in [END, END + 1, 1 << 31, u32::MAX] {
+            assert_eq!(ffi::table::board(&bytes, t), refused(33));
+        }
+        // Those of the bytes come first.
+        assert_eq!(ffi::table::board(&bytes[..15], END), refused(21));
+        assert_eq!(ffi::table::board(&bytes[1..], END), refused(22));
+        assert_eq!(ffi::table::board(&bytes[..bytes.len() - 1], 3), refused(25));
+    }
+}
+
+/// 32 roles, 64 users and 64 permissions; role r is enabled at the phases from r on.
+#[test]
+fn boards_of_64_users() {
+    let derived: Vec<DerivedRole> = (0..32)
+        .map(|source| DerivedRole {
+            source,
+            users: 1 << source | 1 << 63,
+            permissions: 1 << (63 - source),
+        })
+        .collect();
+    let rows: Vec<Row> = (0..32)
+        .map(|derived| Row { derived, begin: 0, end: END, offset: derived as u16, length: 60 })
+        .collect();
+    let mut table = Table { cycle: 100, users: 64, permissions: 64, roles: 32, derived, rows };
+    assert_eq!(board(&table, 99), (0, vec![]));
+    assert_eq!(board(&table, 100).0, 1);
+    let (rows, rights) = board(&table, END - 1 - (END - 1) % 100 + 31);
+    assert_eq!((rows, rights.len()), (32, 64));
+    assert_eq!((rights[0], rights[31], rights[32]), (1 << 63, 1 << 32, 0));
+    assert_eq!(rights[63], u64::MAX << 32, "those of all roles together");
+    // At phase 70 the roles up to 10 are over.
+    assert_eq!(board(&table, 70).0, 21);
+    // A role that begins or ends at the minute; a derived role that no row enables.
+    (table.rows[31].begin, table.rows[30].end) = (50, 50);
+    assert_eq!([49, 50, 51].map(|t| board(&table, t).0), [31, 31, 31]);
+    assert_eq!([49, 50].map(|t| board(&table, t).1[63] >> 32 & 3), [2, 1]);
+    table.rows.clear();
+    assert_eq!(board(&table, 50), (0, vec![]));
+    // Nobody at all.
+    table.derived.clear();
+    (table.users, table.permissions, table.roles) = (0, 0, 0);
+    assert_eq!([0, END - 1].map(|t| board(&table, t)), [(0, vec![]), (0, vec![])]);
+}
+
+#[test]
+fn boards() {
+    tallied("boards", 20_000, table::boards)
+        .reached([0, 33])
+        .also(&["no row", "one row", "several rows"]);
+}
+
+#[test]
+fn boards_minute_by_minute() {
+    tallied("boards_minute_by_minute", 300, table::boards_minute_by_minute).reached([0, 33]);
+}
+
+#[test]
+fn boards_by_questions() {
+    tallied("boards_by_questions", 300, table::boards_by_questions)
+        .reached([0])
+        .also(&["rights"]);
 }

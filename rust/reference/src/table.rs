@@ -40,6 +40,15 @@ pub struct Table {
     pub rows: Vec<Row>,
 }
 
+/// The staff board of one minute.
+#[derive(Clone, Debug, PartialEq, Eq)]
+pub struct Board {
+    /// How many rows enable their derived role.
+    pub rows: u32,
+    /// What each user number may use: nothing where there is no such user.
+    pub permissions: [u64; 64],
+}
+
 impl Row {
     /// offset + length, as a number that does not wrap.
     #[inline]
@@ -163,6 +172,26 @@ impl Table {
             minutes.find(|&t| row.enables(self.cycle, t))
         };
         Ok(self.rows.iter().filter(grants).filter_map(first).min())
+    }
+
+    /// The board of `t`: each user, permission and enabled derived role is looked at.
+    pub fn board(&self, t: u32) -> Result<Board, Refusal> {
+        if t >= END {
+            return Err(33);
+        }
+        let enabled: Vec<&DerivedRole> = self.enabled(t).collect();
+        let may = |user, permission| {
+            enabled
+                .iter()
+                .any(|entry| set::has(entry.users, user) && set::has(entry.permissions, permission))
+        };
+        let mut permissions = [0; 64];
+        for (user, own) in (0..self.users()).zip(&mut permissions) {
+            for permission in (0..self.permissions()).filter(|&permission| may(user, permission)) {
+                *own = set::with(*own, permission);
+            }
+        }
+        Ok(Board { rows: enabled.len() as u32, permissions })
     }
 
     /// The derived roles that are enabled at `t`, once for each row that enables them.

@@ -5,9 +5,9 @@ use std::collections::{BTreeMap, BTreeSet, HashSet};
 use cases::case::Tally;
 use cases::random::Random;
 use cases::{generate, joining};
-use reference::END;
+use reference::{END, set};
 use reference::edges::Edges;
-use reference::policy::{Policy, staying_at};
+use reference::policy::{Policy, question, staying_at};
 use reference::rewriting::{self, touch};
 use reference::rota::Rota;
 use reference::service::{Call, Lent, Reply, State, serve, step};
@@ -124,6 +124,31 @@ fn the_next_use_minute_by_minute() {
         assert_eq!(table.next_use(user, table.permissions.into(), 0), Err(35));
     }
     assert!(seen.iter().all(|&times| times > 1_000), "none, later and now: {seen:?}");
+}
+
+/// A board by single questions, and its rows one by one.
+#[test]
+fn the_board_by_questions() {
+    let mut random = Random::new(5);
+    let mut several = 0;
+    for _ in 0..2_000 {
+        let table = generate::table(&mut random);
+        let t = generate::table_minute(&mut random, &table);
+        let Ok(board) = table.board(t) else {
+            assert!(t >= END);
+            continue;
+        };
+        for (user, own) in (0..).zip(board.permissions) {
+            for permission in 0..64 {
+                let is_yes = matches!(question(&table, user, permission, t), Ok(Some(_)));
+                assert_eq!(set::has(own, permission), is_yes, "user {user}, {permission}");
+            }
+        }
+        let enables = |row: &&Row| row.enables(table.cycle, t);
+        assert_eq!(board.rows as usize, table.rows.iter().filter(enables).count());
+        several += u32::from(board.rows > 1);
+    }
+    assert!(several > 100, "several rows {several} times");
 }
 
 /// What a jump leaves, by the minutes that stand for all and by all of them.

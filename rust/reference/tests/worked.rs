@@ -152,6 +152,21 @@ fn worked_next_uses() {
 }
 
 #[test]
+fn worked_boards() {
+    let table = rewriting::table(&small());
+    let board = |t| table.board(t).map(|board| (board.rows, board.permissions));
+    let of = |first: [u64; 2]| {
+        let mut permissions = [0; 64];
+        permissions[..2].copy_from_slice(&first);
+        permissions
+    };
+    assert_eq!(board(3), Ok((1, of([1, 0]))));
+    assert_eq!(board(12), Ok((1, of([1, 1]))));
+    assert_eq!(board(37), Ok((0, of([0, 0]))));
+    assert_eq!((board(END - 1), board(END)), (Ok((0, of([0, 0]))), Err(33)));
+}
+
+#[test]
 fn worked_calls() {
     let (rota, table) = (data::small_rota(), data::small_table());
     for lent in [Lent::Rota(&rota), Lent::Table(&table)] {

@@ -105,7 +105,7 @@ impl Host<'_> {
     }
 
     /// Who may use each right at a minute, by questions without a service.
-    fn show_board(&mut self, minute: u32) -> Result<(), Refusal> {
+    fn show_users(&mut self, minute: u32) -> Result<(), Refusal> {
         let (counts, now) = (self.rota.counts(), date(minute)?);
         for right in 0..counts.rights {
             let mut volunteers = String::new();
@@ -118,6 +118,29 @@ impl Host<'_> {
             }
             say!(self.text, "{now} right {right} may be used by{volunteers}");
         }
+        Ok(())
+    }
+
+    /// The staff board of a minute, as a screen in the hall shows it: who is on, and with which
+    /// rights. Single questions must say the same.
+    fn show_board(&mut self, minute: u32) -> Result<(), Refusal> {
+        let (counts, board) = (self.rota.counts(), self.table.board(minute)?);
+        say!(self.text, "{} staff board, by {} rows of the table:", date(minute)?, board.rows);
+        let mut is_anyone = false;
+        for volunteer in 0..counts.volunteers {
+            for right in 0..counts.rights {
+                let told = self.rota.may(volunteer, right, minute);
+                let told = agreed(told, self.table.may(volunteer, right, minute))?;
+                assert_eq!(board.may(volunteer, right), told.is_some(), "board and question");
+            }
+            let rights: String =
+                board.rights_of(volunteer).map(|right| format!(" {right}")).collect();
+            if !rights.is_empty() {
+                say!(self.text, "  volunteer {volunteer} may use{rights}");
+                is_anyone = true;
+            }
+        }
+        say!(self.text, "  nobody {}may use a right", if is_anyone { "else " } else { "" });
         Ok(())
     }
 
@@ -172,6 +195,7 @@ impl Host<'_> {
         let short = &table[..table.len() - 1];
         self.show_refusal("the table without its last byte", Table::read(short));
         self.show_refusal("the next use by volunteer 256", self.table.next_use(256, 0, 0));
+        self.show_refusal("the board of minute 210379680", self.table.board(210_379_680));
         let told = self.call(|service, lent| service.open(lent, 256));
         self.show_refusal("an open of volunteer 256", told);
         let told = self.call(|service, lent| service.advance(lent, 0));
@@ -218,7 +242,8 @@ fn week(file: &[u8]) -> Result<String, Refusal> {
     for hour in 0..7 * 24 {
         host.spend_hour(monday + HOUR * hour)?;
     }
-    host.show_board(monday + 2 * DAY + 11 * HOUR)?;
+    host.show_users(monday + 2 * DAY + 11 * HOUR)?;
+    host.show_board(monday + 6 * DAY + 14 * HOUR)?;
     host.show_next(monday + 7 * DAY)?;
     host.show_refusals();
     let Host { service, advances, closed, opens, closes, yes, no, refused, mut text, .. } = host;

@@ -70,6 +70,14 @@ pub struct WrittenTold {
     pub length: u64,
 }
 
+/// Its sets have 64 bits, so it lies flat.
+#[repr(C)]
+pub struct BoardTold {
+    pub refusal: u32,
+    pub rows: u32,
+    pub rights: [u64; 64],
+}
+
 type Question = unsafe extern "C" fn(*const u8, usize, u32, u32, u32) -> Told<Answer>;
 type Call = unsafe extern "C" fn(*mut Service, *const u8, usize, u32) -> Told<Answer>;
 type Ask = unsafe extern "C" fn(*mut Service, *const u8, usize, u32, u32) -> Told<Answer>;
@@ -81,6 +89,7 @@ unsafe extern "C" {
     fn softlode_rota_question(rota: *const u8, length: usize, volunteer: u32, right: u32, minute: u32) -> Told<Answer>;
     fn softlode_table_question(table: *const u8, length: usize, volunteer: u32, right: u32, minute: u32) -> Told<Answer>;
     fn softlode_table_next(table: *const u8, length: usize, volunteer: u32, right: u32, minute: u32) -> Told<NextUse>;
+    fn softlode_table_board(table: *const u8, length: usize, minute: u32) -> BoardTold;
     fn softlode_rewrite(rota: *const u8, length: usize, area: *mut u8, size: usize) -> WrittenTold;
     fn softlode_rota_advance(service: *mut Service, rota: *const u8, length: usize, minute: u32) -> Told<Answer>;
     fn softlode_table_advance(service: *mut Service, table: *const u8, length: usize, minute: u32) -> Told<Answer>;
@@ -127,6 +136,11 @@ pub fn question(lent: Lent, volunteer: u32, right: u32, minute: u32) -> Told<Ans
 pub fn table_next(table: &[u8], volunteer: u32, right: u32, minute: u32) -> Told<NextUse> {
     // SAFETY: the bytes are lent for the time of the call.
     unsafe { softlode_table_next(table.as_ptr(), table.len(), volunteer, right, minute) }
+}
+
+pub fn table_board(table: &[u8], minute: u32) -> BoardTold {
+    // SAFETY: the bytes are lent for the time of the call.
+    unsafe { softlode_table_board(table.as_ptr(), table.len(), minute) }
 }
 
 fn call(service: &mut Service, lent: Lent, rota: Call, table: Call, number: u32) -> Told<Answer> {
@@ -179,6 +193,7 @@ mod tests {
         assert_eq!(size_of::<Told<u32>>(), 8);
         assert_eq!(offset_of!(Told<Answer>, values), 4);
         assert_eq!((size_of::<WrittenTold>(), offset_of!(WrittenTold, length)), (24, 16));
+        assert_eq!((size_of::<BoardTold>(), offset_of!(BoardTold, rights)), (520, 8));
         assert_eq!((size_of::<Service>(), offset_of!(Service, open)), (16, 8));
         assert_eq!(align_of::<Service>(), 8);
     }
@@ -199,6 +214,7 @@ mod tests {
                 assert!(matches!(told(question(null(), 0, 0, 0, 0)), Err(1 | 21)));
             }
             assert_eq!(softlode_table_next(null(), 0, 0, 0, 0).refusal, 21);
+            assert_eq!(softlode_table_board(null(), 0, 0).refusal, 21);
             for ask in [softlode_rota_ask as Ask, softlode_table_ask] {
                 assert!(matches!(told(ask(&mut service, null(), 0, 0, 0)), Err(1 | 21)));
             }

@@ -232,6 +232,54 @@ impl<'a> Table<'a> {
     ) -> Result<Option<u32>, Refusal> {
         ffi::table_next(self.bytes, volunteer, right, minute).minute()
     }
+
+    /// The staff board of the minute: what everyone may use then; or 33. Each volunteer has the
+    /// rights for which [`may`](Table::may) would be a yes, and no other. It takes little longer
+    /// than one such question.
+    ///
+    /// ```
+    /// use softlode::{Refusal, Table, minute};
+    ///
+    /// let table = Table::read(include_bytes!("../../../data/week.table"))?;
+    /// let board = table.board(minute(2024, 3, 3, 14, 0)?)?;
+    /// // On Sunday volunteer 5 may discard a record, which is right 8.
+    /// assert!(board.may(5, 8) && !board.may(0, 8));
+    /// assert_eq!(board.rights_of(5).collect::<Vec<_>>(), [0, 1, 6, 7, 8]);
+    /// assert_eq!(board.rights_of(64).count(), 0);
+    /// # Ok::<(), Refusal>(())
+    /// ```
+    pub fn board(&self, minute: u32) -> Result<Board, Refusal> {
+        let told = ffi::table_board(self.bytes, minute);
+        Refusal::judge(told.refusal)?;
+        Ok(Board { rows: told.rows, rights: told.rights })
+    }
+}
+
+/// The staff board of one minute, as [`Table::board`] gives it.
+#[derive(Clone, Copy, Debug, PartialEq, Eq)]
+pub struct Board {
+    /// How many rows of the table enable their derived role then.
+    pub rows: u32,
+    /// The set of rights of each volunteer, bit i for right i; empty past the last volunteer.
+    pub rights: [u64; 64],
+}
+
+impl Board {
+    fn set_of(&self, volunteer: u32) -> u64 {
+        self.rights.get(volunteer as usize).copied().unwrap_or(0)
+    }
+
+    /// Whether the volunteer may use the right. Numbers that are not there may not, and are no
+    /// refusal.
+    pub fn may(&self, volunteer: u32, right: u32) -> bool {
+        self.set_of(volunteer).checked_shr(right).is_some_and(|set| set & 1 == 1)
+    }
+
+    /// The rights of the volunteer, in ascending order.
+    pub fn rights_of(&self, volunteer: u32) -> impl Iterator<Item = u32> + use<> {
+        let set = self.set_of(volunteer);
+        (0..64).filter(move |right| set >> right & 1 == 1)
+    }
 }
 
 impl<'a> From<&Rota<'a>> for Lent<'a> {

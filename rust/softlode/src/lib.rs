@@ -34,6 +34,6 @@ mod refusal;
 mod service;
 
 pub use calendar::{DateTime, LAST_MINUTE, date, minute};
-pub use lent::{Lent, Rota, RotaCounts, Table, TableCounts, Written};
+pub use lent::{Board, Lent, Rota, RotaCounts, Table, TableCounts, Written};
 pub use refusal::Refusal;
 pub use service::Service;

@@ -8,6 +8,7 @@ const HEADER: &str = include_str!("../../../include/softlode.h");
 const INTERFACE: &str = include_str!("../../../crates/softlode/src/lib.rt");
 const STRUCTURES: &str = concat!(
     include_str!("../../../crates/told/src/lib.rt"),
+    include_str!("../../../crates/board/src/lib.rt"),
     include_str!("../../../crates/machine/src/lib.rt"),
 );
 const WRAPPER: &str = concat!(
@@ -18,12 +19,13 @@ const WRAPPER: &str = concat!(
 );
 
 /// The structs as the header, the proved crates and the wrapper name them.
-const STRUCTS: [[&str; 3]; 8] = [
+const STRUCTS: [[&str; 3]; 9] = [
     ["softlode_rota", "RotaTold", "Told<RotaCounts>"],
     ["softlode_table", "TableTold", "Told<TableCounts>"],
     ["softlode_written", "WrittenTold", "WrittenTold"],
     ["softlode_told", "Told", "Told<Answer>"],
     ["softlode_next", "NextTold", "Told<NextUse>"],
+    ["softlode_board", "Board", "BoardTold"],
     ["softlode_service", "Service", "Service"],
     ["softlode_date_time", "DateTold", "Told<DateTime>"],
     ["softlode_minute_number", "MinuteTold", "Told<u32>"],
@@ -42,7 +44,11 @@ fn c_fields(name: &str) -> Vec<String> {
         .filter_map(|line| line.split_once(';'))
         .map(|(field, _)| {
             let (kind, name) = field.trim().split_once(' ').expect("a type and a name");
-            format!("{name}: {}", kind.replace("int", "").replace("_t", ""))
+            let kind = kind.replace("int", "").replace("_t", "");
+            match name.trim_end_matches(']').split_once('[') {
+                Some((name, count)) => format!("{name}: [{kind}; {count}]"),
+                None => format!("{name}: {kind}"),
+            }
         })
         .collect()
 }
@@ -139,7 +145,7 @@ fn c_functions() -> Vec<Function> {
 #[test]
 fn the_same_functions() {
     let expected = c_functions();
-    assert_eq!(expected.len(), 16);
+    assert_eq!(expected.len(), 17);
     let kinds = [
         ("&[u8]", "bytes size"),
         ("&mut [u8]", "area size"),

@@ -152,6 +152,7 @@ fn of_every_other_call() {
             if let Ok(table) = Table::read(table) {
                 for from in [0, 12_008_160, 105_189_840] {
                     all.push(stack_of(NEAR, || table.next_use(0, 0, from)));
+                    all.push(stack_of(NEAR, || table.board(from)));
                 }
             }
             for lent in [Lent::Rota(&rota), Lent::Table(table)] {

@@ -91,6 +91,49 @@ fn the_next_use_of_the_small_table() {
     }
 }
 
+#[test]
+fn the_board_of_the_small_table() {
+    let table = Table::read(SMALL_TABLE).unwrap();
+    let at = |minute| table.board(minute).map(|board| (board.rows, board.rights));
+    let of = |first: [u64; 2]| {
+        let mut rights = [0; 64];
+        rights[..2].copy_from_slice(&first);
+        rights
+    };
+    assert_eq!(at(3), Ok((1, of([1, 0]))));
+    assert_eq!(at(12), Ok((1, of([1, 1]))));
+    assert_eq!(at(37), Ok((0, of([0, 0]))));
+    assert_eq!(at(LAST_MINUTE), Ok((0, of([0, 0]))));
+    for minute in [LAST_MINUTE + 1, 1 << 31, u32::MAX] {
+        assert_eq!(at(minute), Err(Refusal::NO_SUCH_MINUTE));
+    }
+    let board = table.board(12).unwrap();
+    assert!(board.may(0, 0) && board.may(1, 0));
+    assert_eq!(board.rights_of(1).collect::<Vec<_>>(), [0]);
+    for number in TOO_HIGH {
+        assert!(!board.may(number, 0) && !board.may(0, number));
+        assert_eq!(board.rights_of(number).count(), 0);
+    }
+}
+
+/// Each set has what single questions say, at each hour of a week.
+#[test]
+fn boards_of_a_week() {
+    let table = Table::read(WEEK_TABLE).unwrap();
+    let monday = minute(2024, 2, 26, 0, 0).unwrap();
+    let mut most = 0;
+    for at in (0..7 * 24).map(|hour| monday + 60 * hour) {
+        let board = table.board(at).unwrap();
+        for volunteer in 0..64 {
+            let is_yes = |&right: &u32| matches!(table.may(volunteer, right, at), Ok(Some(_)));
+            let rights: Vec<u32> = (0..64).filter(is_yes).collect();
+            assert_eq!(board.rights_of(volunteer).collect::<Vec<_>>(), rights);
+        }
+        most = most.max(board.rows);
+    }
+    assert!(most > 1 && most <= table.counts().roles, "{most} rows at once");
+}
+
 /// On the small rota volunteer 0 holds no right at minutes 4, 5, 8, 9, 14, 15 and from 18 on.
 #[test]
 fn an_advance_judges_each_minute_that_it_passes() {
@@ -207,7 +250,8 @@ fn stack_of_every_other_call() {
         let table = Table::read(WEEK_TABLE).map(|table| table.counts().rows);
         let monday = minute(2024, 2, 26, 9, 0).unwrap();
         let weekday = date(monday).map(|date| date.weekday);
-        let mut told = vec![rota, table, weekday];
+        let rows = Table::read(WEEK_TABLE).and_then(|table| table.board(monday));
+        let mut told = vec![rota, table, weekday, rows.map(|board| board.rows)];
         for lent in [Lent::Rota(WEEK), Lent::Table(WEEK_TABLE)] {
             let mut service = Service::fresh();
             told.push(lent.may(0, 9, monday).map(|role| role.unwrap_or(99)));

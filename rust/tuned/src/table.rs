@@ -3,7 +3,7 @@
 use reference::bytes::{u16_at, u32_at, u64_at};
 use reference::policy::Policy;
 use reference::set::{below, has};
-use reference::table::Row;
+use reference::table::{Board, Row};
 use reference::{CYCLE_LIMIT, END, Refusal};
 
 use crate::rota::Rota;
@@ -122,6 +122,21 @@ impl<'a> Table<'a> {
             }
         }
         Ok((best < END).then_some(best))
+    }
+
+    /// The rows that enable their derived role at `t`, counted, and what each user may use then.
+    pub fn board(&self, t: u32) -> Result<Board, Refusal> {
+        ensure(t < END, 33)?;
+        let mut board = Board { rows: 0, permissions: [0; 64] };
+        for entry in self.all_enabled(t) {
+            board.rows += 1;
+            let (mut users, permissions) = (u64_at(entry, 1), u64_at(entry, 9));
+            while users != 0 {
+                board.permissions[users.trailing_zeros() as usize] |= permissions;
+                users &= users - 1;
+            }
+        }
+        Ok(board)
     }
 
     /// The entry of a source that is enabled at `t`. There is at most one: the rows of a source

@@ -74,6 +74,7 @@ fn compare_table(case: &mut Case, tally: &mut Tally, bytes: &[u8], near: &Table)
             let quickly = quick.next_use(user, permission, m);
             let wanted = expected.next_use(user, permission, m);
             case.same(quickly, wanted, bytes, (user, permission, m));
+            case.same(quick.board(m), expected.board(m), bytes, ("board", m));
         }
     }
     let expected = expected.as_ref().map(|table| table as &dyn Policy).map_err(|&refusal| refusal);

@@ -4,12 +4,12 @@ use cases::case::{Case, Tally};
 use cases::random::Random;
 use cases::{data, generate};
 use reference::table::Table;
-use reference::{END, Refusal};
+use reference::{END, Refusal, set};
 
 use super::asked::{Kind, Lent, compare_all, compare_any_question, compare_question};
 use super::rota::some_rota;
 use crate::ffi::rota::{Answered, Holders};
-use crate::ffi::table::{NextUse, TableRead};
+use crate::ffi::table::{Board, NextUse, TableRead};
 use crate::{expected, ffi};
 
 impl Kind for Table {
@@ -79,6 +79,19 @@ pub fn compare_next_use(
     case.same(proved, expected, &lent.bytes, given);
 }
 
+/// The board of a minute: counted by whether no row, one or several enable a derived role then.
+pub fn compare_board(case: &Case, tally: &mut Tally, lent: &Lent<Table>, t: u32) {
+    let expected = expected::table::board(&lent.parsed, t);
+    tally.add(expected.refusal);
+    match expected {
+        Board { refusal: 0, rows: 0, .. } => tally.count("no row"),
+        Board { refusal: 0, rows: 1, .. } => tally.count("one row"),
+        Board { refusal: 0, .. } => tally.count("several rows"),
+        _ => (),
+    }
+    case.same(ffi::table::board(&lent.bytes, t), expected, &lent.bytes, ("board", "minute", t));
+}
+
 /// A user and a permission that a row grants, and any minute at which answers may change.
 fn own_numbers(random: &mut Random, table: &Table) -> Option<(u32, u32, u32)> {
     if table.rows.is_empty() {
@@ -109,16 +122,21 @@ pub fn by_hand(case: &mut Case, tally: &mut Tally) {
     }
 }
 
+/// A table by hand, small or of any size, or one of a rota.
+fn any_table(random: &mut Random) -> Table {
+    match random.below(8) {
+        0 => generate::table(random),
+        1 | 2 => {
+            let rota = generate::touching_rota(random);
+            generate::table_of_rota(random, &rota)
+        }
+        _ => generate::small_table(random),
+    }
+}
+
 /// The next uses of tables by hand and rewritten, of any user and permission and of a row's own.
 pub fn next_uses(case: &mut Case, tally: &mut Tally) {
-    let table = match case.random.below(8) {
-        0 => generate::table(&mut case.random),
-        1 | 2 => {
-            let rota = generate::touching_rota(&mut case.random);
-            generate::table_of_rota(&mut case.random, &rota)
-        }
-        _ => generate::small_table(&mut case.random),
-    };
+    let table = any_table(&mut case.random);
     let lent = Lent::new(table.encode());
     for _ in 0..4 {
         let user = generate::number(&mut case.random, table.users.into());
@@ -155,6 +173,42 @@ pub fn next_uses_by_questions(case: &mut Case, tally: &mut Tally) {
     }
 }
 
+/// The boards of tables by hand and rewritten, where answers may change.
+pub fn boards(case: &mut Case, tally: &mut Tally) {
+    let table = any_table(&mut case.random);
+    let lent = Lent::new(table.encode());
+    for _ in 0..4 {
+        let t = table.minute(&mut case.random);
+        compare_board(case, tally, &lent, t);
+    }
+}
+
+/// The boards of a stretch of minutes.
+pub fn boards_minute_by_minute(case: &mut Case, tally: &mut Tally) {
+    let lent = Lent::new(generate::small_table(&mut case.random).encode());
+    for t in (0..50).chain(END - 10..END + 1).chain([1 << 31, u32::MAX]) {
+        compare_board(case, tally, &lent, t);
+    }
+}
+
+/// A board has what the proved questions say yes to, whoever is asked for, and nothing else: the
+/// request's own words.
+pub fn boards_by_questions(case: &mut Case, tally: &mut Tally) {
+    let table = any_table(&mut case.random);
+    let bytes = table.encode();
+    for _ in 0..3 {
+        let t = table.minute(&mut case.random).min(END - 1);
+        let board = ffi::table::board(&bytes, t);
+        tally.add(board.refusal);
+        for (user, rights) in (0..).zip(board.rights) {
+            let is_yes = |&right: &u32| ffi::table::question(&bytes, user, right, t).yes == 1;
+            let asked = (0..64).filter(is_yes).fold(0, set::with);
+            tally.count_if(asked != 0, "rights");
+            case.same(rights, asked, &bytes, ("board", "user", user, "minute", t));
+        }
+    }
+}
+
 /// The tables of random rotas, joined and unjoined, asked where their own answers change and where
 /// the rotas' do.
 pub fn rewritten(case: &mut Case, tally: &mut Tally) {
@@ -170,19 +224,14 @@ pub fn rewritten(case: &mut Case, tally: &mut Tally) {
 
 /// Several faults at once, so that the order of refusals shows.
 pub fn several_faults(case: &mut Case, tally: &mut Tally) {
-    let table = match case.random.below(8) {
-        0 => generate::table(&mut case.random),
-        1 => {
-            let rota = generate::touching_rota(&mut case.random);
-            generate::table_of_rota(&mut case.random, &rota)
-        }
-        _ => generate::small_table(&mut case.random),
-    };
+    let table = any_table(&mut case.random);
     let lent = Lent::new(generate::damaged_table(&mut case.random, &table));
     compare_all(case, tally, &lent, &table, 1);
     let (user, permission) = (case.random.below(66), case.random.below(66));
     let m = table.minute(&mut case.random);
     compare_next_use(case, tally, &lent, user, permission, m);
+    let t = table.minute(&mut case.random);
+    compare_board(case, tally, &lent, t);
 }
 
 /// Counts near 2^32 in short files, most with a size that is right in 32 bits.

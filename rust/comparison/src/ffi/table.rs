@@ -22,10 +22,19 @@ pub struct NextUse {
     pub minute: u32,
 }
 
+#[repr(C)]
+#[derive(Clone, Copy, Debug, PartialEq, Eq)]
+pub struct Board {
+    pub refusal: u32,
+    pub rows: u32,
+    pub rights: [u64; 64],
+}
+
 unsafe extern "C" {
     fn softlode_table_read(s: *const u8, len: usize) -> TableRead;
     fn softlode_table_question(s: *const u8, len: usize, u: u32, p: u32, t: u32) -> Answered;
     fn softlode_table_next(s: *const u8, len: usize, u: u32, p: u32, m: u32) -> NextUse;
+    fn softlode_table_board(s: *const u8, len: usize, t: u32) -> Board;
     fn probe_table_holders(s: *const u8, len: usize, t: u32) -> Holders;
 }
 
@@ -39,6 +48,10 @@ pub fn question(bytes: &[u8], user: u32, permission: u32, t: u32) -> Answered {
 
 pub fn next_use(bytes: &[u8], user: u32, permission: u32, m: u32) -> NextUse {
     unsafe { softlode_table_next(bytes.as_ptr(), bytes.len(), user, permission, m) }
+}
+
+pub fn board(bytes: &[u8], t: u32) -> Board {
+    unsafe { softlode_table_board(bytes.as_ptr(), bytes.len(), t) }
 }
 
 pub fn holders(bytes: &[u8], t: u32) -> Holders {
