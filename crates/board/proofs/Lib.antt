@@ -1,4 +1,5 @@
 pub mod AddLaws
+pub mod CountLaws
 pub mod RowLaws
 pub mod ToldLaws
 pub mod BoardLaws

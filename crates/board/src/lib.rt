@@ -1,4 +1,4 @@
-// The staff board: for one minute, from a table in one pass, the permissions of every user and the number of rows that enable their derived role then.
+// The staff board: for one minute, from a table, the permissions of every user and the number of rows that enable their derived role then.
 ghost use mathlib.Core.Path.{_≡_};
 ghost use lib.ListN.{length};
 ghost use Rattle.ground.specs.Outcome.{given};
@@ -43,31 +43,36 @@ fn add(rights: &mut [u64; 64], users: u64, permissions: u64)
     }
 }
 
-// The board of an accepted table: each row that covers the minute counts, and adds the permissions of its entry.
+// The board of an accepted table: for each role the row that covers the minute, if there is one, counts and adds the permissions of its entry. Rows go by
+// role, so that each search begins where the last one ended.
 fn board_in(s: &[u8], n: Counts, t: u32) -> Board
     requires { ⌜ Opened (now s) n ⌝ }
     ensures { λ r. ⌜ r ≡ boardTold (given (shownAt (tableOf (now (s .entry))) t)) ⌝ }
 {
     let first = 16 + 17 * (n.derived as usize);
     let all = n.rows;
+    let roles = n.roles as usize;
     let x = minutes::phase(n.cycle, t);
     let mut rights = [0u64; 64];
-    let mut rows: u32 = 0;
-    let mut i: u32 = 0;
-    while i < all {
-        let at = first + 16 * (i as usize);
-        if table_answers::row_covers(s, at, t, x) {
-            let e = table_answers::entry_place(s, at);
+    let mut count: u32 = 0;
+    let mut near = 0;
+    let mut r = 0;
+    while r < roles {
+        let f = rows::row_at(s, n, r, near, t, x);
+        let k = f.row;
+        near = f.next;
+        if k < all as usize {
+            let e = table_answers::entry_place(s, first + 16 * k);
             let users = endian::read64(s, e + 1);
             let permissions = endian::read64(s, e + 9);
             add(&mut rights, users, permissions);
-            rows += 1;
+            count += 1;
         }
-        i += 1;
+        r += 1;
     }
     Board {
         refusal: 0,
-        rows,
+        rows: count,
         rights,
     }
 }
