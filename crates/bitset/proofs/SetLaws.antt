@@ -24,7 +24,7 @@ use borrow.Author.Tests.{eq-eqb, ne-eqb, eqb-true, eqb-false, lt-ltb, le-ltb, lt
 use Rattle.ground.specs.Choice.{pick}
 use Rattle.ground.specs.Search.{one, anyBelow, countBelow}
 use Rattle.ground.proofs.BoolLaws.{ltb-iff, T-ext, eq→T, clash}
-use Rattle.ground.proofs.SearchLaws.{any-stop, any-out, any-no}
+use Rattle.ground.proofs.SearchLaws.{any-stop, any-out, any-no, count-same}
 use Rattle.bitset.specs.Sets.{has, setOf, insert, remove, union, intersection, difference, count}
 
 -- ---- the lowest bit, and the rest
@@ -250,11 +250,6 @@ pub intersection-setOf : (n : ℕ) (f g : ℕ → Bool) → n ≤ 64 → interse
 intersection-setOf n f g l = intersection-of n (setOf n f) g l ∙ setOf-same n _ _ (λ i m. ap (λ (b : Bool). b && g i) (has-below n f i m))
 
 -- ---- counts
-count-same : (k : ℕ) (f g : ℕ → Bool) → ((i : ℕ) → i < k → f i ≡ g i) → countBelow k f ≡ countBelow k g
-unfolding countBelow
-count-same zero f g e = refl
-count-same (suc k) f g e = ap₂ (λ (x y : ℕ). x + y) (count-same k f g (λ i l. e i (omega arith))) (ap one (e k (omega arith)))
-
 pub count-low : (k : ℕ) (f : ℕ → Bool) → countBelow (suc k) f ≡ one (f 0) + countBelow k (λ (i : ℕ). f (suc i))
 unfolding countBelow
 count-low zero f = omega arith

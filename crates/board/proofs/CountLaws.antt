@@ -11,13 +11,9 @@ use borrow.Author.Tests.{lt-ltb, le-ltb}
 use lib.Dec.{ltb}
 use Rattle.ground.specs.Search.{one, countBelow}
 use Rattle.ground.proofs.BoolLaws.{clash, ltb-iff}
+use Rattle.ground.proofs.SearchLaws.{count-same}
 
--- tests that agree below the bound, and one that nothing passes
-count-same : (m : ℕ) (f g : ℕ → Bool) → ((i : ℕ) → i < m → f i ≡ g i) → countBelow m g ≡ countBelow m f
-unfolding countBelow
-count-same zero f g h = refl
-count-same (suc m) f g h = ap₂ _+_ (count-same m f g (λ i l. h i (lt-trans l (le-refl (suc m))))) (ap one (sym (h m (le-refl (suc m)))))
-
+-- a test that nothing passes
 count-no : (m : ℕ) (f : ℕ → Bool) → ((i : ℕ) → f i ≡ false) → countBelow m f ≡ 0
 unfolding countBelow
 count-no zero f h = refl
@@ -30,7 +26,7 @@ module _ (f g : ℕ → Bool) (q : ℕ) (no : f q ≡ false) (yes : g q ≡ true
   count-but zero l h = absurd (not-suc-le-zero l)
   count-but (suc m) l h =
       ⊎-elim
-      (λ (e : q ≡ m). rw (← e, no, yes) (ap (λ (x : ℕ). x + 1) (count-same q f g (λ i k. h i (λ z. omega arith)) ∙ sym (add-zero _))))
+      (λ (e : q ≡ m). rw (← e, no, yes) (ap (λ (x : ℕ). x + 1) (count-same q g f (λ i k. sym (h i (λ z. omega arith))) ∙ sym (add-zero _))))
       (λ (k : q < m). let b = count-but m k h in let z = ap one (h m (λ z. omega arith)) in omega arith)
       (eq-or-lt-of-le (le-of-suc-le-suc l))
 
@@ -58,4 +54,4 @@ module _ (m : ℕ) (g : ℕ → Bool) (row role : ℕ → ℕ) where
           (λ j d. elsewhere j (λ q. d (sym (w .there j (omega arith) .0) ∙ ap role q)))
           ∙ ap (λ (x : ℕ). x + 1) before
       go false e before =
-          count-same m _ _ (λ j l. elsewhere j (λ q. clash (g n) (sym (ap g q) ∙ w .there j (omega arith) .1) e)) ∙ before ∙ sym (add-zero _)
+          count-same m _ _ (λ j l. sym (elsewhere j (λ q. clash (g n) (sym (ap g q) ∙ w .there j (omega arith) .1) e))) ∙ before ∙ sym (add-zero _)

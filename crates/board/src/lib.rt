@@ -39,7 +39,7 @@ fn add(rights: &mut [u64; 64], users: u64, permissions: u64)
         let i = u as usize;
         let had = rights[i];
         rights[i] = bitset::either(had, permissions);
-        rest = bitset::without(rest, u);
+        rest = bitset::without_lowest(rest);
     }
 }
 

@@ -3,7 +3,7 @@
 --     any-turn, any-same              one turn, whatever the test says; tests that agree below the bound
 --     any-split, any-blocks           a search in two parts, and block by block
 --     any-out, any-no, any-none-of    a number that passes; none does
---     list-any, list-count            some element of a list given by index, and how many; count-none, count-turn, count-most: how many numbers
+--     list-any, list-count            some element of a list given by index, and how many; of numbers: count-none, count-turn, count-most, count-same
 --     lowest-is, lowest-none, lowest-some, lowest-out, lowest-no    the lowest number that passes, and where there is none
 -- Assumes nothing.
 use Prim.Native.Nat.{ℕ, zero, suc, _+_, _*_, _≤_, _<_}
@@ -106,6 +106,12 @@ module _ (f : ℕ → Bool) where
       go : (b : Bool) → countBelow n f ≤ n → countBelow n f + one b ≤ suc n
       go true h = omega arith
       go false h = omega arith
+
+-- tests that agree below n
+pub count-same : (n : ℕ) (f g : ℕ → Bool) → ((i : ℕ) → i < n → f i ≡ g i) → countBelow n f ≡ countBelow n g
+unfolding countBelow
+count-same zero f g e = refl
+count-same (suc n) f g e = ap₂ _+_ (count-same n f g (λ i l. e i (omega arith))) (ap one (e n (omega arith)))
 
 pub any-out : (n : ℕ) (f : ℕ → Bool) → anyBelow n f ≡ true → (i : ℕ) × (i < n) × (f i ≡ true)
 unfolding anyBelow

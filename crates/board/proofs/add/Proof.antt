@@ -41,13 +41,13 @@ mul-rights c = omega (arith, c .before .before .lowest .ensures .1)
 element-write-rights : tie.Need-element-write-rights Inv-loop μ-loop
 element-write-rights c = c .before .before .lowest .ensures .1
 
-without-requires : tie.Need-without-requires Inv-loop μ-loop
-without-requires c κs = c .before .before .lowest .ensures .1
+without-lowest-requires : tie.Need-without-lowest-requires Inv-loop μ-loop
+without-lowest-requires c κs = omega arith
 
 loop-less : tie.Need-loop-less Inv-loop μ-loop
 loop-less c =
     let r = c .before .before .before .lowest .ensures in
-    rw (c .without .ensures) (remove-less _ _ (c .before .before .before .before .before .loop .inv .1) (r .1) (r .0 .member))
+    rw (c .without-lowest .ensures _ (r .0)) (remove-less _ _ (c .before .before .before .before .before .loop .inv .1) (r .1) (r .0 .member))
 
 loop-again : tie.Need-loop-again Inv-loop μ-loop
 loop-again c =
@@ -55,7 +55,7 @@ loop-again c =
     let r = c .before .before .before .lowest .ensures in (
       length-set (l .rights) _ _ ∙ l .inv .0,
       lt-trans (loop-less c) (l .inv .1),
-      l .inv .2 ∙ added-turn (l .rights) (l .rest) _ _ (l .inv .0) (r .1) (r .0 .member) _ _ (c .before .either .ensures) (c .without .ensures),
+      l .inv .2 ∙ added-turn (l .rights) (l .rest) _ _ (l .inv .0) (r .1) (r .0 .member) _ _ (c .before .either .ensures) (c .without-lowest .ensures _ (r .0)),
     )
 
 returns : tie.Need-returns Inv-loop μ-loop
@@ -77,7 +77,7 @@ add-spec =
     either-requires
     mul-rights
     element-write-rights
-    without-requires
+    without-lowest-requires
     loop-less
     loop-again
     returns)
