@@ -5,3 +5,4 @@ pub mod Worked
 pub mod NextUseAgreed
 pub mod Sleeping
 pub mod Touching
+pub mod BoardAgreed

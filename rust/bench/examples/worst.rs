@@ -4,8 +4,8 @@
 //!
 //! What is timed is one of: rewrite, into 40 MB; refuse, the same into 64 KiB, where that gives
 //! 20; read, question, rota-minute, rota-advance, on the rota; table-read, table-question,
-//! table-next, table-minute, table-advance, on its table. Everyone is open at first, and an advance
-//! is of one minute, or over 400 years.
+//! table-next, table-board, table-minute, table-advance, on its table. Everyone is open at first,
+//! and an advance is of one minute, or over 400 years.
 
 use std::hint::black_box;
 use std::time::{Duration, Instant};
@@ -88,7 +88,8 @@ struct Search {
 impl Search {
     /// Seconds of what is timed, on this rota: the quickest of so many rounds.
     fn seconds(&mut self, rota: &[u8], times: u32) -> f64 {
-        let asked = ["question", "next", "minute"].iter().any(|what| self.what.ends_with(what));
+        let asked =
+            ["question", "next", "board", "minute"].iter().any(|what| self.what.ends_with(what));
         self.round(rota, times) / if asked { ASKED.into() } else { 1.0 }
     }
 
@@ -116,6 +117,7 @@ impl Search {
             "table-next" => {
                 quickest(times, || questions(|u, p, m| ffi::table::next_use(table, u, p, m)))
             }
+            "table-board" => quickest(times, || questions(|_, _, t| ffi::table::board(table, t))),
             "table-minute" => quickest(times, || advances(on_table)),
             "table-advance" => quickest(times, || jump(on_table)),
             "rewrite" => quickest(times, || {

@@ -8,7 +8,7 @@ use cases::{data, worst};
 use comparison::ffi;
 use reference::rota::Rota;
 use reference::set;
-use reference::table::{DerivedRole, Table};
+use reference::table::{DerivedRole, Row, Table};
 use reference::{END, rewriting};
 
 /// How many questions each input has; they are asked in turn.
@@ -52,6 +52,7 @@ pub struct Input {
     pub rows: usize,
     /// The set of all users.
     pub everyone: u64,
+    pub permissions: u32,
     questions: Vec<Question>,
     /// The table with user 0 in hardly a derived role.
     pub without_user: Vec<u8>,
@@ -97,6 +98,7 @@ impl Input {
             derived: table.derived.len(),
             rows: table.rows.len(),
             everyone: set::below(table.users.into()),
+            permissions: table.permissions.into(),
             questions,
             without_user: without_user(table).encode(),
         }
@@ -129,6 +131,15 @@ fn entries_alone() -> Table {
     Table { cycle: 40_320, users: 64, permissions: 64, roles: 32, derived, rows }
 }
 
+/// Every role is enabled at each minute, with all users and all permissions: no board has more to
+/// add, and hardly a table that has so much is shorter.
+fn everyone_at_once() -> Table {
+    let entry = |source| DerivedRole { source, users: u64::MAX, permissions: u64::MAX };
+    let row = |derived| Row { derived, begin: 0, end: END, offset: 0, length: 40_320 };
+    let (derived, rows) = ((0..32).map(entry).collect(), (0..32).map(row).collect());
+    Table { cycle: 40_320, users: 64, permissions: 64, roles: 32, derived, rows }
+}
+
 pub fn inputs() -> Vec<Input> {
     let mut random = Random::new(2);
     let small = Rota::parse(&data::small_rota()).expect("well formed");
@@ -151,7 +162,9 @@ pub fn inputs() -> Vec<Input> {
     ];
     let cuts = worst::cuts().into_iter();
     inputs.extend(cuts.map(|(name, cut)| Input::new(name, Rows::Unjoined, cut.rota())));
-    inputs
-        .push(Input::of_table("derived roles alone", &entries_alone(), |random| random.below(END)));
+    let by_hand =
+        [("derived roles alone", entries_alone()), ("everyone at once", everyone_at_once())];
+    let of_table = |(name, table)| Input::of_table(name, &table, |random| random.below(END));
+    inputs.extend(by_hand.into_iter().map(of_table));
     inputs
 }

@@ -1,7 +1,9 @@
 //! Times each operation of the proved code against the quick implementation, on the same inputs in
 //! one run, and prints the ratio. Readers are also shown beside a plain pass over the same bytes.
-//! At the end all stands in one table, and advances that take long in tables of their own.
+//! At the end all stands in one table; boards beside single questions, and advances that take long,
+//! in tables of their own.
 
+mod boards;
 mod inputs;
 mod jumps;
 mod timing;
@@ -138,6 +140,11 @@ fn table(input: &Input, report: &mut Report) {
         |i| Table::read(black_box(bytes)).and_then(|table| holders(&table, minute(i))),
     );
     report.print("table holders", name, times);
+    let times = time(
+        |i| ffi::table::board(black_box(bytes), minute(i)),
+        |i| Table::read(black_box(bytes)).and_then(|table| table.board(minute(i))),
+    );
+    report.print("table board", name, times);
     let times = next_use_times(bytes, |i| input.question(i));
     report.print("table next", name, times);
     // Hardly a row begins too late to matter.
@@ -290,6 +297,9 @@ fn main() {
         dates(&mut report);
     }
     report.print_table(&inputs);
+    if is_chosen("boards") {
+        boards::print_beside_questions(&inputs);
+    }
     if is_chosen("jumps") {
         jumps::print_worst_rotas();
         jumps::print_worst_tables();

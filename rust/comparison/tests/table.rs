@@ -357,9 +357,11 @@ fn boards_of_64_users() {
 
 #[test]
 fn boards() {
-    tallied("boards", 20_000, table::boards)
-        .reached([0, 33])
-        .also(&["no row", "one row", "several rows"]);
+    tallied("boards", 20_000, table::boards).reached([0, 33]).also(&[
+        "no row",
+        "one row",
+        "several rows",
+    ]);
 }
 
 #[test]
@@ -369,7 +371,5 @@ fn boards_minute_by_minute() {
 
 #[test]
 fn boards_by_questions() {
-    tallied("boards_by_questions", 300, table::boards_by_questions)
-        .reached([0])
-        .also(&["rights"]);
+    tallied("boards_by_questions", 300, table::boards_by_questions).reached([0]).also(&["rights"]);
 }

@@ -5,13 +5,13 @@ use std::collections::{BTreeMap, BTreeSet, HashSet};
 use cases::case::Tally;
 use cases::random::Random;
 use cases::{generate, joining};
-use reference::{END, set};
 use reference::edges::Edges;
 use reference::policy::{Policy, question, staying_at};
 use reference::rewriting::{self, touch};
 use reference::rota::Rota;
 use reference::service::{Call, Lent, Reply, State, serve, step};
 use reference::table::{Row, Table};
+use reference::{END, set};
 
 /// The users that some answer grants something, asked one by one.
 fn holders_by_asking(policy: &dyn Policy, t: u32) -> u64 {

@@ -20,6 +20,11 @@
 //! // When can volunteer 5 next discard a record, which is right 8?
 //! let next = table.next_use(5, 8, service.now)?.expect("discarders have their Sundays");
 //! assert_eq!(date(next)?.to_string(), "Sun 2024-03-03 14:00");
+//!
+//! // And what may everyone use then?
+//! let board = table.board(next)?;
+//! assert_eq!(board.rights_of(5).collect::<Vec<_>>(), [0, 1, 6, 7, 8]);
+//! assert!(!board.may(0, 8));
 //! # Ok::<(), Refusal>(())
 //! ```
 
