@@ -7,33 +7,32 @@ use comparison::ffi;
 
 use crate::in_words;
 use crate::inputs::Input;
-use crate::timing::time;
+use crate::timing::{quickest, time};
 
-/// With more rows than this the questions take seconds: each of them reads the table anew.
-const ROW_LIMIT: usize = 50_000;
+/// With more rows or derived roles than this the questions take seconds: each reads the table anew.
+const LIMIT: usize = 50_000;
+const ROUNDS: usize = 5;
 
 pub fn print_beside_questions(inputs: &[Input]) {
-    println!("\n| input | board | 64 × P | questions | in boards |\n|---|---|---|---|---|");
-    for input in inputs.iter().filter(|input| input.rows <= ROW_LIMIT && input.derived <= ROW_LIMIT)
-    {
+    println!("\n| input | board | 64 × P | as many questions | in boards |\n|---|---|---|---|---|");
+    for input in inputs.iter().filter(|input| input.rows.max(input.derived) <= LIMIT) {
         let (table, minute) = (&input.table[..], |i| input.question(i).minute);
-        let times = time(
-            |i| ffi::table::board(black_box(table), minute(i)),
-            |i| {
-                for user in 0..64 {
-                    for permission in 0..input.permissions {
-                        black_box(ffi::table::question(table, user, permission, minute(i)));
-                    }
+        let board = |i| ffi::table::board(black_box(table), minute(i));
+        let questions = |i| {
+            for user in 0..64 {
+                for permission in 0..input.permissions {
+                    black_box(ffi::table::question(black_box(table), user, permission, minute(i)));
                 }
-            },
-        );
+            }
+        };
+        let (board, questions) = (time(board, board).proved, quickest(ROUNDS, questions));
         println!(
             "| {} | {} | {} | {} | {:.0} |",
             input.name,
-            in_words(times.proved),
+            in_words(board),
             64 * input.permissions,
-            in_words(times.tuned),
-            times.tuned / times.proved
+            in_words(questions),
+            questions / board
         );
     }
 }

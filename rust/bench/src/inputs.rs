@@ -140,6 +140,19 @@ fn everyone_at_once() -> Table {
     Table { cycle: 40_320, users: 64, permissions: 64, roles: 32, derived, rows }
 }
 
+/// Roles with 1 row and with 31 by turns, each for one minute in so many: a search that begins
+/// where it would be if the next role had as many rows as the last one begins far off.
+fn uneven_roles() -> Table {
+    let entry = |source| DerivedRole { source, users: 0xff << source, permissions: 0xff };
+    let rows = (0..32).flat_map(|derived| {
+        let count = if derived % 2 == 0 { 1 } else { 31 };
+        let row = move |i| Row { derived, begin: 0, end: END, offset: 1_300 * i, length: 1 };
+        (0..count).map(row)
+    });
+    let (derived, rows) = ((0..32).map(entry).collect(), rows.collect());
+    Table { cycle: 40_320, users: 64, permissions: 64, roles: 32, derived, rows }
+}
+
 pub fn inputs() -> Vec<Input> {
     let mut random = Random::new(2);
     let small = Rota::parse(&data::small_rota()).expect("well formed");
@@ -162,8 +175,11 @@ pub fn inputs() -> Vec<Input> {
     ];
     let cuts = worst::cuts().into_iter();
     inputs.extend(cuts.map(|(name, cut)| Input::new(name, Rows::Unjoined, cut.rota())));
-    let by_hand =
-        [("derived roles alone", entries_alone()), ("everyone at once", everyone_at_once())];
+    let by_hand = [
+        ("derived roles alone", entries_alone()),
+        ("everyone at once", everyone_at_once()),
+        ("uneven roles", uneven_roles()),
+    ];
     let of_table = |(name, table)| Input::of_table(name, &table, |random| random.below(END));
     inputs.extend(by_hand.into_iter().map(of_table));
     inputs

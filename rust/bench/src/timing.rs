@@ -75,12 +75,18 @@ impl<T, F: FnMut(usize) -> T> Timed<F> {
 
 /// One call of each, for what takes minutes.
 pub fn time_once<T, U>(proved: impl FnOnce() -> T, tuned: impl FnOnce() -> U) -> Times {
-    fn seconds<T>(call: impl FnOnce() -> T) -> f64 {
-        let start = Instant::now();
-        black_box(call());
-        start.elapsed().as_secs_f64()
-    }
     Times { proved: seconds(proved), tuned: seconds(tuned) }
+}
+
+/// Seconds of one call, the quickest of so many: for what is many calls by itself.
+pub fn quickest<T>(calls: usize, mut call: impl FnMut(usize) -> T) -> f64 {
+    (0..calls).map(|i| seconds(|| call(i))).fold(f64::INFINITY, f64::min)
+}
+
+fn seconds<T>(call: impl FnOnce() -> T) -> f64 {
+    let start = Instant::now();
+    black_box(call());
+    start.elapsed().as_secs_f64()
 }
 
 /// The quickest round of each; rounds alternate, and both have as many calls: what the first calls

@@ -14,10 +14,10 @@ use Rattle.board.proofs.board_in.Statement.{statement}
 use Rattle.board.proofs.board_in.Tie as tie
 
 abbrev Inv-loop : tie.InvT-loop
-Inv-loop s n t first all roles x rights₀ count₀ near₀ r₀ rights count near r = (r ≤ roles) × Gathered s t r rights count
+Inv-loop s n t first all roles x rights₀ count₀ last₀ near₀ r₀ rights count last near r = (r ≤ roles) × Gathered s t r rights count
 
 abbrev μ-loop : tie.MeasureT-loop
-μ-loop s n t first all roles x rights₀ count₀ near₀ r₀ rights count near r = roles - r
+μ-loop s n t first all roles x rights₀ count₀ last₀ near₀ r₀ rights count last near r = roles - r
 
 cast-first : tie.Need-cast-first Inv-loop μ-loop
 cast-first c = search needs
@@ -40,6 +40,9 @@ loop-holds c = (search needs, gathered-none _ _)
 row-at-requires : tie.Need-row-at-requires Inv-loop μ-loop
 row-at-requires c κs = let o = c .before .before .before .before .before .before .pre in (o, phase-is _ _ o _ _ (c .before .before .phase .ensures))
 
+onward-requires : tie.Need-onward-requires Inv-loop μ-loop
+onward-requires c κs = search needs
+
 cast-if1 : tie.Need-cast-if1 Inv-loop μ-loop
 cast-if1 c = search needs
 
@@ -50,41 +53,41 @@ add-entry-place : tie.Need-add-entry-place Inv-loop μ-loop
 add-entry-place c = search needs
 
 entry-place-requires : tie.Need-entry-place-requires Inv-loop μ-loop
-entry-place-requires c κs = row-inside _ _ (c .before .before .before .before .before .before .before .before .pre) _ (c .if1 .taken) .row
+entry-place-requires c κs = row-inside _ _ (c .before .before .before .before .before .before .before .before .before .pre) _ (c .if1 .taken) .row
 
 add-read64 : tie.Need-add-read64 Inv-loop μ-loop
-add-read64 c = omega (arith, row-inside _ _ (c .before .before .before .before .before .before .before .before .before .pre) _ (c .before .if1 .taken) .entry, c .before .before .before .before .before .before .before .before .before .good)
+add-read64 c = omega (arith, row-inside _ _ (c .before .before .before .before .before .before .before .before .before .before .pre) _ (c .before .if1 .taken) .entry, c .before .before .before .before .before .before .before .before .before .before .good)
 
 read64-requires : tie.Need-read64-requires Inv-loop μ-loop
-read64-requires c κs = omega (arith, row-inside _ _ (c .before .before .before .before .before .before .before .before .before .pre) _ (c .before .if1 .taken) .entry)
+read64-requires c κs = omega (arith, row-inside _ _ (c .before .before .before .before .before .before .before .before .before .before .pre) _ (c .before .if1 .taken) .entry)
 
 add-read64-2 : tie.Need-add-read64-2 Inv-loop μ-loop
-add-read64-2 c = omega (arith, row-inside _ _ (c .before .before .before .before .before .before .before .before .before .before .pre) _ (c .before .before .if1 .taken) .entry, c .before .before .before .before .before .before .before .before .before .before .good)
+add-read64-2 c = omega (arith, row-inside _ _ (c .before .before .before .before .before .before .before .before .before .before .before .pre) _ (c .before .before .if1 .taken) .entry, c .before .before .before .before .before .before .before .before .before .before .before .good)
 
 read64-requires-2 : tie.Need-read64-requires-2 Inv-loop μ-loop
-read64-requires-2 c κs = omega (arith, row-inside _ _ (c .before .before .before .before .before .before .before .before .before .before .pre) _ (c .before .before .if1 .taken) .entry)
+read64-requires-2 c κs = omega (arith, row-inside _ _ (c .before .before .before .before .before .before .before .before .before .before .before .pre) _ (c .before .before .if1 .taken) .entry)
 
 add-requires : tie.Need-add-requires Inv-loop μ-loop
-add-requires c κs = gathered-length _ _ _ _ _ (c .before .before .before .before .before .before .before .loop .inv .1)
+add-requires c κs = gathered-length _ _ _ _ _ (c .before .before .before .before .before .before .before .before .loop .inv .1)
 
 add-count : tie.Need-add-count Inv-loop μ-loop
-add-count c = omega (arith, gathered-few _ _ _ _ _ (c .before .before .before .before .before .before .before .before .loop .inv .1), c .before .before .before .before .before .before .before .loop-test .taken)
+add-count c = omega (arith, gathered-few _ _ _ _ _ (c .before .before .before .before .before .before .before .before .before .loop .inv .1), c .before .before .before .before .before .before .before .before .loop-test .taken)
 
 add-r : tie.Need-add-r Inv-loop μ-loop
 add-r c = search needs
 
 loop-less : tie.Need-loop-less Inv-loop μ-loop
-loop-less c = let h = c .before .before .loop-test .taken in omega arith
+loop-less c = let h = c .before .before .before .loop-test .taken in omega arith
 
 loop-again : tie.Need-loop-again Inv-loop μ-loop
 loop-again c =
-    let l = c .before .before .before .loop in
-    let h = c .before .before .loop-test .taken in
-    let o = c .before .before .before .before .before .before .before .before .pre in (
+    let l = c .before .before .before .before .loop in
+    let h = c .before .before .before .loop-test .taken in
+    let o = c .before .before .before .before .before .before .before .before .before .pre in (
       omega arith,
       ⊎-elim
-          (λ w. rw (w .6 ∙ w .5 .ensures, w .7) (gathered-in _ _ o _ _ _ _ (l .inv .1) _ (c .before .row-at .ensures) (w .0 .taken) _ _ _ (w .1 .ensures) (w .2 .ensures) (w .3 .ensures)))
-          (λ w. rw (w .1, w .2) (gathered-out _ _ o _ _ _ _ (l .inv .1) _ (c .before .row-at .ensures) (w .0 .left)))
+          (λ w. rw (w .6 ∙ w .5 .ensures, w .7) (gathered-in _ _ o _ _ _ _ (l .inv .1) _ (c .before .before .row-at .ensures) (w .0 .taken) _ _ _ (w .1 .ensures) (w .2 .ensures) (w .3 .ensures)))
+          (λ w. rw (w .1, w .2) (gathered-out _ _ o _ _ _ _ (l .inv .1) _ (c .before .before .row-at .ensures) (w .0 .left)))
           (c .if1 .came),
     )
 
@@ -106,6 +109,7 @@ board-in-spec =
     phase-requires
     loop-holds
     row-at-requires
+    onward-requires
     cast-if1
     mul-entry-place
     add-entry-place
