@@ -155,11 +155,11 @@ static void show_board(const struct host *host, softlode_rota counts, uint32_t m
     softlode_board board = softlode_table_board(host->table, host->table_length, minute);
     int is_anyone = 0;
     show_date(minute);
-    printf(" staff board, by %" PRIu32 " rows of the table:\n", board.rows);
+    printf(" staff board, by %" PRIu32 " row%s of the table:\n", board.rows, board.rows == 1 ? "" : "s");
     for (uint32_t volunteer = 0; volunteer < counts.volunteers; volunteer++) {
         uint64_t rights = board.rights[volunteer];
         if (rights != 0) {
-            printf("  volunteer %" PRIu32 " may use", volunteer);
+            printf("  volunteer %" PRIu32 " may use rights", volunteer);
             is_anyone = 1;
         }
         for (uint32_t right = 0; right < counts.rights; right++) {
@@ -234,7 +234,7 @@ int main(int argc, char **argv) {
     uint32_t monday = softlode_minute(2024, 2, 26, 0, 0).minute;
     for (uint32_t hour = 0; hour < 7 * 24; hour++) spend_hour(&host, counts, monday + HOUR * hour);
     show_users(&host, counts, monday + 2 * DAY + 11 * HOUR);
-    show_board(&host, counts, monday + 6 * DAY + 14 * HOUR);
+    show_board(&host, counts, monday + 2 * DAY + 11 * HOUR);
     show_next(&host, counts, monday + 7 * DAY);
     show_refusals(&host, rota);
     printf("%u advances closed %u; %u opens, %u closes, %u yes, %u no, %u refused; at ", host.advances, host.closed, host.opens, host.closes,

@@ -1,5 +1,6 @@
 // The staff board: for one minute, from a table, the permissions of every user and the number of rows that enable their derived role then.
 ghost use mathlib.Core.Path.{_≡_};
+ghost use Prim.Native.Nat.{_≤_};
 ghost use lib.ListN.{length};
 ghost use Rattle.ground.specs.Outcome.{given};
 ghost use Rattle.ground.specs.Outcome as Outcome;
@@ -43,8 +44,10 @@ fn add(rights: &mut [u64; 64], users: u64, permissions: u64)
     }
 }
 
-// As far past b as b is past a: where the next role's row is, if that role has as many rows. It is for a guess, and promises nothing.
-fn onward(a: usize, b: usize) -> usize {
+// As far past b as b is past a: where the next role's row is, if that role has as many rows. It is for a guess.
+fn onward(a: usize, b: usize) -> usize
+    ensures { λ r. ⌜ b ≤ r ⌝ }
+{
     if b < 4294967296 {
         if a < b {
             return b + (b - a);

@@ -131,8 +131,9 @@ fn the_next_use_minute_by_minute() {
 fn the_board_by_questions() {
     let mut random = Random::new(5);
     let mut several = 0;
-    for _ in 0..2_000 {
-        let table = generate::table(&mut random);
+    for case in 0..2_000 {
+        let make = if case % 2 == 0 { generate::table } else { generate::crowded_table };
+        let table = make(&mut random);
         let t = generate::table_minute(&mut random, &table);
         let Ok(board) = table.board(t) else {
             assert!(t >= END);
@@ -148,7 +149,7 @@ fn the_board_by_questions() {
         assert_eq!(board.rows as usize, table.rows.iter().filter(enables).count());
         several += u32::from(board.rows > 1);
     }
-    assert!(several > 100, "several rows {several} times");
+    assert!(several > 500, "several rows {several} times");
 }
 
 /// What a jump leaves, by the minutes that stand for all and by all of them.

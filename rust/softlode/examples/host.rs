@@ -125,7 +125,8 @@ impl Host<'_> {
     /// rights. Single questions must say the same.
     fn show_board(&mut self, minute: u32) -> Result<(), Refusal> {
         let (counts, board) = (self.rota.counts(), self.table.board(minute)?);
-        say!(self.text, "{} staff board, by {} rows of the table:", date(minute)?, board.rows);
+        let (rows, plural) = (board.rows, if board.rows == 1 { "" } else { "s" });
+        say!(self.text, "{} staff board, by {rows} row{plural} of the table:", date(minute)?);
         let mut is_anyone = false;
         for volunteer in 0..counts.volunteers {
             for right in 0..counts.rights {
@@ -136,7 +137,7 @@ impl Host<'_> {
             let rights: String =
                 board.rights_of(volunteer).map(|right| format!(" {right}")).collect();
             if !rights.is_empty() {
-                say!(self.text, "  volunteer {volunteer} may use{rights}");
+                say!(self.text, "  volunteer {volunteer} may use rights{rights}");
                 is_anyone = true;
             }
         }
@@ -243,7 +244,7 @@ fn week(file: &[u8]) -> Result<String, Refusal> {
         host.spend_hour(monday + HOUR * hour)?;
     }
     host.show_users(monday + 2 * DAY + 11 * HOUR)?;
-    host.show_board(monday + 6 * DAY + 14 * HOUR)?;
+    host.show_board(monday + 2 * DAY + 11 * HOUR)?;
     host.show_next(monday + 7 * DAY)?;
     host.show_refusals();
     let Host { service, advances, closed, opens, closes, yes, no, refused, mut text, .. } = host;

@@ -241,10 +241,10 @@ impl<'a> Table<'a> {
     /// use softlode::{Refusal, Table, minute};
     ///
     /// let table = Table::read(include_bytes!("../../../data/week.table"))?;
-    /// let board = table.board(minute(2024, 3, 3, 14, 0)?)?;
-    /// // On Sunday volunteer 5 may discard a record, which is right 8.
-    /// assert!(board.may(5, 8) && !board.may(0, 8));
-    /// assert_eq!(board.rights_of(5).collect::<Vec<_>>(), [0, 1, 6, 7, 8]);
+    /// let board = table.board(minute(2024, 2, 28, 11, 0)?)?;
+    /// // On Wednesday morning volunteer 5 reads and merges, and may discard nothing, which is right 8.
+    /// assert_eq!(board.rights_of(5).collect::<Vec<_>>(), [0, 1, 6, 7]);
+    /// assert!(board.may(5, 6) && !board.may(5, 8));
     /// assert_eq!(board.rights_of(64).count(), 0);
     /// # Ok::<(), Refusal>(())
     /// ```

@@ -143,7 +143,7 @@ fn of_a_rewriting() {
 fn of_every_other_call() {
     on_thread(|| {
         let mut area = vec![0; 1_000_000];
-        let mut all = Vec::new();
+        let (mut all, mut boards) = (Vec::new(), Vec::new());
         for rota in rotas() {
             let rewritten = Rota::read(&rota).and_then(|rota| rota.rewrite(&mut area));
             let table = rewritten.map_or(&[][..], |written| written.bytes);
@@ -152,7 +152,7 @@ fn of_every_other_call() {
             if let Ok(table) = Table::read(table) {
                 for from in [0, 12_008_160, 105_189_840] {
                     all.push(stack_of(NEAR, || table.next_use(0, 0, from)));
-                    all.push(stack_of(NEAR, || table.board(from)));
+                    boards.push(stack_of(NEAR, || table.board(from)));
                 }
             }
             for lent in [Lent::Rota(&rota), Lent::Table(table)] {
@@ -172,6 +172,7 @@ fn of_every_other_call() {
             all.push(stack_of(NEAR, || date(4_000_003 * day)));
             all.push(stack_of(NEAR, || minute(2001 + 8 * day, 2, 28 + day % 3, 23, 59)));
         }
+        assert!(most("a board", &boards) < 4_096);
         assert!(most("every other call", &all) < 2_048);
     });
 }

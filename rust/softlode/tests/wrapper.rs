@@ -263,6 +263,6 @@ fn stack_of_every_other_call() {
         told
     });
     let calls = [5, 0, 0, 5, 0].map(Ok);
-    assert_eq!(told[..3], [Ok(20), Ok(239), Ok(0)]);
-    assert_eq!((&told[3..8], &told[8..]), (&calls[..], &calls[..]));
+    assert_eq!(told[..4], [Ok(20), Ok(239), Ok(0), Ok(5)]);
+    assert_eq!((&told[4..9], &told[9..]), (&calls[..], &calls[..]));
 }

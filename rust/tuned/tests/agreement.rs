@@ -92,13 +92,14 @@ fn any_rota(random: &mut Random) -> Rota {
 }
 
 fn any_table(random: &mut Random) -> Table {
-    match random.below(5) {
+    match random.below(6) {
         0 => generate::table(random),
         1 => {
             let rota = generate::touching_rota(random);
             generate::table_of_rota(random, &rota)
         }
         2 => generate::dense_table(random),
+        3 => generate::crowded_table(random),
         _ => generate::small_table(random),
     }
 }

@@ -8,6 +8,7 @@ use reference::rota::{Rota, Row};
 use reference::table::{self, DerivedRole, Table};
 use reference::{END, set};
 
+use super::table::some_set;
 use super::{LIMITS, distinct, table_of_rota};
 use crate::random::Random;
 
@@ -154,13 +155,33 @@ pub fn relay_table(random: &mut Random) -> Table {
 pub fn dense_table(random: &mut Random) -> Table {
     let cycle = short_cycle(random);
     let (users, roles) = (random.between(1, 6), random.between(1, 4));
+    dense_table_of(random, cycle, users, 1, roles)
+}
+
+/// The same with many roles, users and permissions, so that at most minutes several roles give
+/// somebody permissions.
+pub fn crowded_table(random: &mut Random) -> Table {
+    let cycle = short_cycle(random);
+    let [users, permissions] = [(); 2].map(|()| random.pick(&[1, 5, 20, 63, 64]));
+    let roles = random.pick(&[2, 6, 31, 32]);
+    dense_table_of(random, cycle, users, permissions, roles)
+}
+
+fn dense_table_of(
+    random: &mut Random,
+    cycle: u16,
+    users: u32,
+    permissions: u32,
+    roles: u32,
+) -> Table {
     let (mut derived, mut rows) = (Vec::new(), Vec::new());
     for role in 0..roles {
         let first = derived.len() as u32;
         for _ in 0..random.between(1, 3) {
             let most = (random.bits() | random.bits()) & set::below(users);
             let users = set::with(most, random.below(users));
-            derived.push(DerivedRole { source: role as u8, users, permissions: 1 });
+            let permissions = if permissions == 1 { 1 } else { some_set(random, permissions) };
+            derived.push(DerivedRole { source: role as u8, users, permissions });
         }
         let seldom = random.pick(&[0, 3, 10]);
         for two in dates(random, cycle, 6).windows(2) {
@@ -179,7 +200,14 @@ pub fn dense_table(random: &mut Random) -> Table {
             }
         }
     }
-    Table { cycle, users: users as u8, permissions: 1, roles: roles as u16, derived, rows }
+    Table {
+        cycle,
+        users: users as u8,
+        permissions: permissions as u8,
+        roles: roles as u16,
+        derived,
+        rows,
+    }
 }
 
 const _: () = assert!(LIMITS.hours >= 5 * 3 && LIMITS.roles >= 5 * 3);

@@ -9,7 +9,7 @@ use super::{any_fault, distinct, minute, put, span};
 use crate::random::Random;
 
 /// A set that is not empty, of numbers below `limit`, which is not 0.
-fn some_set(random: &mut Random, limit: u32) -> u64 {
+pub(super) fn some_set(random: &mut Random, limit: u32) -> u64 {
     let numbers = match random.below(3) {
         0 => random.bits(),
         1 => random.bits() & random.bits() & random.bits(),

@@ -173,9 +173,14 @@ pub fn next_uses_by_questions(case: &mut Case, tally: &mut Tally) {
     }
 }
 
+/// Half of the tables have several rows at most minutes.
+fn board_table(random: &mut Random) -> Table {
+    if random.one_in(2) { generate::crowded_table(random) } else { any_table(random) }
+}
+
 /// The boards of tables by hand and rewritten, where answers may change.
 pub fn boards(case: &mut Case, tally: &mut Tally) {
-    let table = any_table(&mut case.random);
+    let table = board_table(&mut case.random);
     let lent = Lent::new(table.encode());
     for _ in 0..4 {
         let t = table.minute(&mut case.random);
@@ -185,7 +190,8 @@ pub fn boards(case: &mut Case, tally: &mut Tally) {
 
 /// The boards of a stretch of minutes.
 pub fn boards_minute_by_minute(case: &mut Case, tally: &mut Tally) {
-    let lent = Lent::new(generate::small_table(&mut case.random).encode());
+    let make = if case.number % 2 == 0 { generate::small_table } else { generate::crowded_table };
+    let lent = Lent::new(make(&mut case.random).encode());
     for t in (0..50).chain(END - 10..END + 1).chain([1 << 31, u32::MAX]) {
         compare_board(case, tally, &lent, t);
     }
@@ -194,7 +200,7 @@ pub fn boards_minute_by_minute(case: &mut Case, tally: &mut Tally) {
 /// A board has what the proved questions say yes to, whoever is asked for, and nothing else: the
 /// request's own words.
 pub fn boards_by_questions(case: &mut Case, tally: &mut Tally) {
-    let table = any_table(&mut case.random);
+    let table = board_table(&mut case.random);
     let bytes = table.encode();
     for _ in 0..3 {
         let t = table.minute(&mut case.random).min(END - 1);
