@@ -1,13 +1,14 @@
--- What document 01 marks for proof under "Worked minutes", and document 02 of S in items 3 and 4, as one statement.
+-- What document 01 marks for proof under "Worked minutes", and what items 3, 4 and 5 of document 02 give on S, as one statement.
 use mathlib.Core.Path.{_≡_}
 use mathlib.Core.Option.{none}
-use mathlib.Core.List.{List·Memᴰ}
-use lib.ListN.{length}
+use mathlib.Core.List.{_∷_, List·Memᴰ}
+use lib.ListN.{length, replicate}
 use Rattle.ground.specs.Outcome.{refused, given}
 use Rattle.calendar.specs.Calendar.{dateAt, minuteOf}
 use Rattle.rota.specs.Rota.{policyOf}
 use Rattle.rota.specs.RotaBytes.{rotaOf}
 use Rattle.rota.specs.Worked.{small, WorkedMinutes}
+use Rattle.board.specs.Board.{shownAt}
 use Rattle.derivation.specs.Rewriting.{keptAs, Kept, kept, rewrite, rewriteJudged}
 use Rattle.derivation.specs.Worked.{example, field}
 use Rattle.machine.specs.declared.Service.{Service}
@@ -30,6 +31,10 @@ pub record Worked : Type 0 where
   pub lists-8 : length (rewrite (rotaOf small) .rows) ≡ 8
   pub needs-195 : rewriteJudged small 195 ≡ 0
   pub refused-194 : rewriteJudged small 194 ≡ 20
+  -- the board of S's table at minutes 3, 12 and 37 (document 02, item 5, which names no minute of S)
+  pub board-3 : shownAt (rewrite (rotaOf small)) 3 ≡ record { rows = 1; permissions = 1 ∷ replicate 63 0 }
+  pub board-12 : shownAt (rewrite (rotaOf small)) 12 ≡ record { rows = 1; permissions = 1 ∷ 1 ∷ replicate 62 0 }
+  pub board-37 : shownAt (rewrite (rotaOf small)) 37 ≡ record { rows = 0; permissions = replicate 64 0 }
   -- C 10, hours (3, 5, pair (0, 10)) and (0, E, pair (6, 2)): era 3 to 5 keeps no field with cell 6 to 8
   pub era-3-to-5 : (keptAs example 0 field ≡ none) × ((k : Kept) → List·Memᴰ k (kept example) → k .field ≡ field → ⊥)
   -- 29 February 2004, 00:00, is minute 1,661,760, a Sunday; the last minute is a Sunday
