@@ -1,34 +1,35 @@
 -- What the board of a table that was rewritten shows is what the rota means: document 02, item 5, over demand 3.
---     by-rota, board-agrees    the sets are the rota's: of the table that the rules give, and of the one in the bytes
---     board-roles              the count is how many roles of the rota are enabled and have a user and a permission then
+--     by-rota          the sets of the table that the rules give are the rota's
+--     board-agrees     sets and count of the table in the bytes
 -- Assumes nothing.
 use Prim.Native.Nat.{ℕ, _<_}
 use mathlib.Core.Path.{_≡_, refl, sym, _∙_, ap}
 use mathlib.Core.Logic.{_↔_}
-use mathlib.Core.Bool.{Bool, true, false, _&&_}
+use mathlib.Core.Bool.{Bool, true, false}
 use mathlib.Core.Option.{Option}
 use mathlib.Core.List.{List}
 use lib.Dec.{ltb, eqb}
 use lib.ListN.{length}
 use borrow.Author.Tests.{ltb-true, lt-ltb, eqb-true, eq-eqb}
 use Rattle.ground.specs.Choice.{pick}
-use Rattle.ground.specs.Search.{anyBelow, countBelow}
+use Rattle.ground.specs.Search.{countBelow}
 use Rattle.ground.proofs.BoolLaws.{and-yes, and-both, and-three, and-all, eq-ext}
-use Rattle.ground.proofs.SearchLaws.{list-any, any-out, any-stop, count-same}
+use Rattle.ground.proofs.SearchLaws.{any-out, any-stop, count-same}
 use Rattle.ground.proofs.SequenceLaws.{listOf-length, get-listOf, listOf-same}
 use Rattle.bitset.proofs.SetLaws.{setOf-same}
 use Rattle.minutes.specs.Minutes.{E, covers}
 use Rattle.policy.specs.Policy.{isYes}
-use Rattle.rota.specs.Rota.{Rota, hasUser, hasPermission}
+use Rattle.rota.specs.Rota.{Rota}
 use Rattle.rota.specs.Rota as rota
 use Rattle.rota.specs.RotaBytes.{rotaOf}
 use Rattle.rota.specs.RotaWell.{RotaWell}
 use Rattle.rota.proofs.RotaTheorems.{accepted-well}
-use Rattle.table.specs.Table.{Entry, Row, Table, noEntry}
+use Rattle.table.specs.Table.{Entry, Table, noEntry}
 use Rattle.table.specs.Table as table
 use Rattle.table.specs.TableBytes.{cycleOf, rolesOf, derivedOf, rowsOf, entryOf, rowOf, tableOf}
 use Rattle.table.specs.TableRefusals.{sourceOf, tableJudged}
 use Rattle.table.proofs.FineLaws.{table-fine}
+use Rattle.table_answers.proofs.AnswerLaws.{enables, enabled-is}
 use Rattle.rows.specs.Rows.{rowFor}
 use Rattle.rows.proofs.StageLaws.{row-found, row-there}
 use Rattle.board.specs.Board.{permissionsAt, boardOf, rowsAt}
@@ -36,6 +37,7 @@ use Rattle.board.proofs.RowLaws.{roleOn, count-roles}
 use Rattle.derivation.specs.Rewriting.{unjoined, rewrite}
 use Rattle.derivation.specs.Meaning.{Acting, EnabledFor}
 use Rattle.derivation.proofs.RewritingTheorems.{same-answer}
+use Rattle.agreement.specs.Boards.{acting, BoardAgrees}
 use Rattle.agreement.specs.Demand3.{Demand3}
 
 -- ---- the sets
@@ -48,16 +50,7 @@ by-rota ρ w t l = listOf-same 64 _ _ (λ u m. own u (ltb u (ρ .users)) refl)
     own u true e = setOf-same (ρ .permissions) _ _ (λ p k. ap (λ (o : Option ℕ). isYes o) (same-answer w u p t (ltb-true u (ρ .users) e) k l))
     own u false e = refl
 
--- each set has the permissions that the rota gives its user
-pub board-agrees : (s bytes : List ℕ) → Demand3 s bytes → (t : ℕ) → t < E
-    → boardOf (table.policyOf (tableOf bytes)) t ≡ boardOf (rota.policyOf (rotaOf s)) t
-board-agrees s bytes d t l = rw (d .table-is) (by-rota (rotaOf s) (accepted-well s (d .rota-accepted)) t l)
-
 -- ---- the count
-
--- role r is enabled at t, and has a user and a permission
-abbrev pub acting : Rota → ℕ → ℕ → Bool
-acting ρ t r = rota.enabled ρ r t && anyBelow (ρ .users) (λ u. hasUser ρ u r t) && anyBelow (ρ .permissions) (λ p. hasPermission ρ p r t)
 
 acting-means : (ρ : Rota) (t r : ℕ) → (acting ρ t r ≡ true) ↔ Acting ρ r t
 acting-means ρ t r = (
@@ -67,13 +60,6 @@ acting-means ρ t r = (
 
 -- role r has a row at t exactly when a derived role of it is enabled then
 module _ (s : List ℕ) (a : tableJudged s ≡ 0) (r t : ℕ) where
-  abbrev enables : ℕ → ℕ → Bool
-  enables i k = eqb (rowOf s k .derived) i && covers (cycleOf s) (rowOf s k .window) t
-
-  enabled-is : (i : ℕ) → table.enabled (tableOf s) i t ≡ anyBelow (rowsOf s) (enables i)
-  unfolding table.enabled tableOf
-  enabled-is i = list-any (λ (w : Row). eqb (w .derived) i && covers (cycleOf s) (w .window) t) (rowsOf s) (rowOf s)
-
   row-enables : roleOn s t r ≡ true → (i : ℕ) × EnabledFor (tableOf s) r t i
   unfolding tableOf
   row-enables h =
@@ -86,14 +72,14 @@ module _ (s : List ℕ) (a : tableJudged s ≡ 0) (r t : ℕ) where
         record {
           below = rw listOf-length m;
           source = ap (λ (e : Entry). e .source) (get-listOf (derivedOf s) (entryOf s) noEntry i m) ∙ z .0;
-          on = enabled-is i ∙ any-stop (enables i) (rowsOf s) k l (and-both _ _ (eq-eqb i i refl) (z .1));
+          on = enabled-is s i t ∙ any-stop (enables s t i) (rowsOf s) k l (and-both _ _ (eq-eqb i i refl) (z .1));
         },
       )
 
   enables-row : (i : ℕ) × EnabledFor (tableOf s) r t i → roleOn s t r ≡ true
   unfolding tableOf
   enables-row (i, e) =
-      let z = any-out (rowsOf s) (enables i) (sym (enabled-is i) ∙ e .on) in
+      let z = any-out (rowsOf s) (enables s t i) (sym (enabled-is s i t) ∙ e .on) in
       let k = z .0 in
       let y = and-yes (eqb (rowOf s k .derived) i) (covers (cycleOf s) (rowOf s k .window) t) (z .2) in
       let q : sourceOf s k ≡ r
@@ -105,13 +91,15 @@ roles-are : (s bytes : List ℕ) → Demand3 s bytes → rolesOf bytes ≡ lengt
 unfolding tableOf rewrite unjoined
 roles-are s bytes d = ap (λ (τ : Table). τ .roles) (d .table-is)
 
--- so many rows cover a minute as roles of the rota are on then
-pub board-roles : (s bytes : List ℕ) → Demand3 s bytes → (t : ℕ) → t < E
-    → rowsAt (tableOf bytes) t ≡ countBelow (length (rotaOf s .roles)) (acting (rotaOf s) t)
-board-roles s bytes d t l =
+rows-are : (s bytes : List ℕ) → Demand3 s bytes → (t : ℕ) → t < E → rowsAt (tableOf bytes) t ≡ countBelow (length (rotaOf s .roles)) (acting (rotaOf s) t)
+rows-are s bytes d t l =
     sym (count-roles bytes (d .table-accepted) t) ∙ ap (λ (n : ℕ). countBelow n (roleOn bytes t)) (roles-are s bytes d)
     ∙ count-same (length (rotaOf s .roles)) _ _
     (λ r m.
     let x = d .meaning r t m l .exactly in
     let y = acting-means (rotaOf s) t r in
     eq-ext _ _ (λ h. y .1 (x .0 (row-enables bytes (d .table-accepted) r t h))) (λ h. enables-row bytes (d .table-accepted) r t (x .1 (y .0 h))))
+
+pub board-agrees : (s bytes : List ℕ) → Demand3 s bytes → (t : ℕ) → t < E → BoardAgrees s bytes t
+board-agrees s bytes d t l =
+    record { sets = rw (d .table-is) (by-rota (rotaOf s) (accepted-well s (d .rota-accepted)) t l); count = rows-are s bytes d t l }

@@ -50,7 +50,7 @@ covering s t i = covers (cycleOf s) (rowOf s i .window) t
 abbrev pub owned : List ℕ → ℕ → Entry
 owned s i = entryOf s (rowOf s i .derived)
 
-abbrev enables : List ℕ → ℕ → ℕ → ℕ → Bool
+abbrev pub enables : List ℕ → ℕ → ℕ → ℕ → Bool
 enables s t d i = eqb (rowOf s i .derived) d && covering s t i
 
 abbrev passes : List ℕ → ℕ → ℕ → ℕ → ℕ → ℕ → Bool
@@ -71,7 +71,7 @@ module _ (s : List ℕ) where
   unfolding tableOf
   entry-is d l = get-listOf (derivedOf s) (entryOf s) noEntry d l
 
-  enabled-is : (d t : ℕ) → enabled (tableOf s) d t ≡ anyBelow (rowsOf s) (enables s t d)
+  pub enabled-is : (d t : ℕ) → enabled (tableOf s) d t ≡ anyBelow (rowsOf s) (enables s t d)
   unfolding enabled tableOf
   enabled-is d t = list-any (λ (w : Row). eqb (w .derived) d && covers (cycleOf s) (w .window) t) (rowsOf s) (rowOf s)
 
