@@ -13,13 +13,13 @@ returns c = search needs
 
 add-held-near : tie.Need-add-held-near
 unfolding E
-add-held-near c = omega (arith, c .before .before .before .before .pre .1)
+add-held-near c = omega (arith, c .before .before .before .before .before .pre .1)
 
 held-near-requires : tie.Need-held-near-requires
 held-near-requires c κs = search needs
 
 returns-2 : tie.Need-returns-2
-returns-2 c = of-everyone _ (holders-few _ _ (c .before .before .before .before .before .pre .0) _) (c .held-near .ensures .is)
+returns-2 c = of-everyone _ (holders-few _ _ (c .before .before .before .before .before .before .pre .0) _) (c .held-near .ensures .is)
 
 pub holders-at-spec : {M : Type 1} → statement M
 holders-at-spec =
