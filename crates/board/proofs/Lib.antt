@@ -3,3 +3,4 @@ pub mod CountLaws
 pub mod RowLaws
 pub mod ToldLaws
 pub mod BoardLaws
+pub mod QuestionLaws

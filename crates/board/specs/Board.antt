@@ -1,5 +1,7 @@
 -- The staff board (document 02, item 5): for one minute the permissions of every user, and how many rows enable their derived role then.
 use Prim.Native.Nat.{ℕ}
+use mathlib.Core.Bool.{Bool, false}
+use mathlib.Core.Option.{Option}
 use mathlib.Core.List.{List}
 use lib.Dec.{ltb, leb}
 use lib.ListN.{replicate}
@@ -19,6 +21,11 @@ use Rattle.board.specs.declared.Board.{Board}
 -- the permissions that user u may use at t: those for which the single question says yes
 unfoldable pub permissionsAt : Policy → ℕ → ℕ → ℕ
 permissionsAt π t u = setOf (π .permissions) (λ p. isYes (π .answer u p t))
+
+-- a single question is answered, and with yes
+abbrev pub saysYes : Outcome (Option ℕ) → Bool
+saysYes (given o) = isYes o
+saysYes (refused n) = false
 
 -- 64 sets, one for each user number; those of no user are empty
 unfoldable pub boardOf : Policy → ℕ → List ℕ
