@@ -1,7 +1,8 @@
 -- Permissions added to the sets of users, one user after the other.
 --     added-none, added-turn     no user is left; one is done, and the others are added to what there is then
+--     added-row                  what the code reads of the row at a position, and adds
 -- Assumes nothing.
-use Prim.Native.Nat.{ℕ, _<_}
+use Prim.Native.Nat.{ℕ, _+_, _*_, _<_}
 use mathlib.Core.Path.{_≡_, refl, sym, _∙_, ap}
 use mathlib.Core.Bool.{Bool, true, false}
 use mathlib.Core.List.{List}
@@ -13,9 +14,11 @@ use borrow.Author.Tests.{eqb-true, eqb-false}
 use Rattle.ground.specs.Choice.{pick}
 use Rattle.ground.proofs.BoolLaws.{pick-false}
 use Rattle.ground.proofs.SequenceLaws.{listOf-same, listOf-is}
+use Rattle.endian.specs.Numbers.{u32At, u64At}
 use Rattle.bitset.specs.Sets.{has, remove, union}
 use Rattle.bitset.proofs.SetLaws.{has-none, remove-self, remove-other}
-use Rattle.board.specs.Rows.{added}
+use Rattle.table.specs.TableBytes.{entryOf}
+use Rattle.board.specs.Rows.{added, addedRow}
 
 pub added-none : (rights : List ℕ) (users permissions : ℕ) → length rights ≡ 64 → users ≡ 0 → added rights users permissions ≡ rights
 unfolding added
@@ -42,3 +45,8 @@ module _ (rights : List ℕ) (users permissions i : ℕ) (n : length rights ≡ 
       → added rights users permissions ≡ added (set rights i x) r permissions
   unfolding added
   added-turn x r ex er = rw (ex, er) (listOf-same 64 _ _ one-done)
+
+pub added-row : (rights s : List ℕ) (at e users permissions : ℕ) → e ≡ 16 + 17 * u32At s at → users ≡ u64At s (e + 1) → permissions ≡ u64At s (e + 9)
+    → added rights users permissions ≡ addedRow rights s at
+unfolding addedRow entryOf
+added-row rights s at e users permissions ee eu ep = rw (eu, ep, ee) refl

@@ -1,47 +1,47 @@
--- The board by the rows of an accepted table, of which each role has at most one at a minute: what the loop has after some of the roles, and that
--- after all of them it has the board.
---     shown-has                                                 the board's sets by the rows that grant; past-users: none does past the users
---     count-roles                                               the rows that cover the minute, counted role by role
---     gathered-none, gathered-in, gathered-out, gathered-all    the loop: no role, a role that has a row at the minute, one that has none, every role
+-- The board by the rows of an accepted table, of which each role has at most one at a minute: what a loop over the rows, or over the roles, has after
+-- some turns, and that after all of them it has the board.
+--     shown-has                                 the board's sets by the rows that grant; past-users: none does past the users
+--     count-roles                               the rows that cover the minute, counted role by role
+--     passed-in, passed-out, passed-all         the loop over the rows: one that covers the minute, one that does not, every row
+--     searched-in, searched-out, searched-all   the loop over the roles: one that has a row at the minute, one that has none, every role
 -- Assumes nothing.
 use Prim.Native.Nat.{ℕ, _+_, _*_, _^_, _≤_, _<_}
 use mathlib.Core.Path.{_≡_, refl, sym, _∙_, ap, ap₂}
-use mathlib.Core.Bool.{Bool, true, false, _&&_, _||_, or-false}
+use mathlib.Core.Bool.{Bool, true, false, _&&_}
 use mathlib.Core.List.{List}
-use native.Mathlib.Nat.{add-zero}
 use native.Mathlib.Omega.{arith}
 use lib.Dec.{ltb}
-use lib.ListN.{length, getD, replicate, getD-replicate}
 use lib.Pow.{pow-pos}
 use borrow.Author.Tests.{ltb-true, ltb-false, lt-ltb, le-ltb, eq-eqb}
 use Rattle.ground.specs.Choice.{pick}
 use Rattle.ground.specs.Outcome.{given}
-use Rattle.ground.specs.Search.{anyBelow, one, countBelow}
+use Rattle.ground.specs.Search.{anyBelow, countBelow}
 use Rattle.ground.specs.Sequence.{listOf}
 use Rattle.ground.proofs.BoolLaws.{and-yes, and-both, clash, eq-ext, not-yes}
-use Rattle.ground.proofs.SearchLaws.{any-none-of, any-out, any-stop, any-turn, list-count, count-none, count-turn, count-most}
-use Rattle.ground.proofs.SequenceLaws.{listOf-length, get-listOf, listOf-same, listOf-is}
-use Rattle.endian.specs.Numbers.{u32At, u64At}
-use Rattle.bitset.specs.Sets.{has, setOf, union}
+use Rattle.ground.proofs.SearchLaws.{any-none-of, any-out, any-stop, list-count}
+use Rattle.ground.proofs.SequenceLaws.{listOf-same}
+use Rattle.endian.specs.Numbers.{u32At}
+use Rattle.bitset.specs.Sets.{has, setOf}
 use Rattle.bitset.proofs.SetLaws.{has-none, has-past, has-setOf, setOf-has, setOf-same, fits-64}
-use Rattle.bitset.proofs.GatherLaws.{gather-start, gather-union}
 use Rattle.minutes.specs.Minutes.{covers}
 use Rattle.policy.specs.Policy.{isYes}
 use Rattle.table.specs.Table.{Row, answer, policyOf}
-use Rattle.table.specs.TableBytes.{cycleOf, usersOf, permissionsOf, rolesOf, rowsOf, rowAtByte, rowOf, tableOf}
+use Rattle.table.specs.TableBytes.{cycleOf, usersOf, permissionsOf, rolesOf, rowsOf, entryOf, rowAtByte, rowOf, tableOf}
 use Rattle.table.specs.TableRefusals.{sourceOf, tableJudged}
 use Rattle.table.specs.Inside.{Opened}
 use Rattle.table.specs.declared.Counts.{Counts}
 use Rattle.table.proofs.HeaderLaws.{counts-are}
 use Rattle.table.proofs.FineLaws.{TableFine, table-fine}
-use Rattle.table_answers.proofs.GrantLaws.{grants-no, grants-by}
+use Rattle.table_answers.specs.Grants.{rowGrants}
+use Rattle.table_answers.proofs.GrantLaws.{grants-out}
 use Rattle.table_answers.proofs.AnswerLaws.{rowPlace, grants, covering, grant-parts, yes-grants}
 use Rattle.rows.specs.Rows.{rowFor}
 use Rattle.rows.proofs.StageLaws.{row-found, row-there}
 use Rattle.board.specs.Board.{permissionsAt, boardOf, rowsAt, shownAt, boardTold}
-use Rattle.board.specs.Rows.{added}
+use Rattle.board.specs.Rows.{addedRow}
 use Rattle.board.specs.declared.Board.{Board}
 use Rattle.board.proofs.CountLaws.{count-matched}
+use Rattle.board.proofs.GatheredLaws.{Gathered, gathered-in, gathered-out}
 
 -- ---- an accepted table
 
@@ -85,6 +85,18 @@ module _ (s : List ℕ) (f : TableFine s) (t : ℕ) where
   unfolding boardOf tableOf
   board-is = listOf-same 64 _ _ (λ u l. sym (setOf-has 64 (shownTo u) _ (shown-fits u) (λ p m. shown-has u p)))
 
+-- ---- row by row
+
+count-rows : (s : List ℕ) (t : ℕ) → countBelow (rowsOf s) (covering s t) ≡ rowsAt (tableOf s) t
+unfolding rowsAt tableOf
+count-rows s t = sym (list-count (λ (w : Row). covers (cycleOf s) (w .window) t) (rowsOf s) (rowOf s))
+
+-- the row at a position covers t: it grants what its entry has
+grants-entry : (s : List ℕ) (at t : ℕ) → covers (cycleOf s) (rowAtByte s at .window) t ≡ true → (u p : ℕ)
+    → rowGrants s u p t at ≡ (has (entryOf s (u32At s at) .users) u && has (entryOf s (u32At s at) .permissions) p)
+unfolding rowGrants
+grants-entry s at t h u p = rw h refl
+
 -- ---- role by role
 
 -- role j has a row at t; and that row grants permission p to user u
@@ -116,98 +128,70 @@ module _ (s : List ℕ) (a : tableJudged s ≡ 0) (t : ℕ) where
       any-stop _ _ (sourceOf s (k .0)) (z .0) (rw (z .1) (and-both _ _ (lt-ltb (k .0) (rowsOf s) (k .1)) (k .2))))
 
   pub count-roles : countBelow (rolesOf s) (roleOn s t) ≡ rowsAt (tableOf s) t
-  unfolding rowsAt tableOf
   count-roles =
       count-matched (rolesOf s) (covering s t) (λ j. rowFor s j t) (sourceOf s) (rowsOf s)
       (record { there = λ j l. row-there s j t _ refl l; back = own-row })
-      ∙ sym (list-count (λ (w : Row). covers (cycleOf s) (w .window) t) (rowsOf s) (rowOf s))
+      ∙ count-rows s t
 
--- ---- the loop
+-- ---- the loops
 
--- the rows of the first i roles at t give these sets, and so many of these roles have one
-pub record Gathered (s : List ℕ) (t i : ℕ) (rights : List ℕ) (rows : ℕ) : Type 0 where
-  pub sets : rights ≡ listOf 64 (λ u. setOf 64 (λ p. anyBelow i (roleGrants s u p t)))
-  pub count : rows ≡ countBelow i (roleOn s t)
+-- what they have after the first i rows, and after the first i roles
+abbrev pub ByRows : List ℕ → ℕ → ℕ → List ℕ → ℕ → Type 0
+ByRows s t = Gathered (λ u p. grants s u p t) (covering s t)
 
-module _ (s : List ℕ) (t : ℕ) where
-  pub gathered-none : Gathered s t 0 (replicate 64 0) 0
-  gathered-none =
-      record {
-        sets = sym (listOf-is 64 _ (replicate 64 0) 0 refl (λ u l. sym (gather-start _) ∙ sym (getD-replicate {A = ℕ} 64 u 0 0 l)));
-        count = count-none _;
-      }
+abbrev pub ByRoles : List ℕ → ℕ → ℕ → List ℕ → ℕ → Type 0
+ByRoles s t = Gathered (λ u p. roleGrants s u p t) (roleOn s t)
 
-  pub gathered-length : (i : ℕ) (rights : List ℕ) (rows : ℕ) → Gathered s t i rights rows → length rights ≡ 64
-  gathered-length i rights rows g = ap length (g .sets) ∙ listOf-length 64 _
+-- this is the board
+abbrev pub IsBoard : List ℕ → ℕ → List ℕ → ℕ → Type 0
+IsBoard s t rights rows = _≡_ {A = Board} (record { refusal = 0; rows = rows; rights = rights }) (boardTold (given (shownAt (tableOf s) t)))
 
-  pub gathered-few : (i : ℕ) (rights : List ℕ) (rows : ℕ) → Gathered s t i rights rows → rows ≤ i
-  gathered-few i rights rows g = rw (g .count) (count-most _ i)
+module _ (s : List ℕ) (n : Counts) (o : Opened s n) (t i : ℕ) (rights : List ℕ) (rows : ℕ) where
+  -- row i, and whether it covers t
+  module _ (g : ByRows s t i rights rows) (v : Bool) (ev : v ≡ covers (cycleOf s) (rowAtByte s (16 + 17 * n .derived + 16 * i) .window) t) where
+    at-place : v ≡ covers (cycleOf s) (rowAtByte s (rowPlace s i) .window) t
+    at-place = rw (counts-are s n (o .counts) .derived) at ev
 
--- role i, and its row k
-module _ (s : List ℕ) (n : Counts) (o : Opened s n) (t i : ℕ) (rights : List ℕ) (rows : ℕ) (g : Gathered s t i rights rows) (k : ℕ)
-    (ek : k ≡ rowFor s i t) where
-  counted : (b : Bool) → roleOn s t i ≡ b → rows + one b ≡ countBelow (i + 1) (roleOn s t)
-  counted b h = ap₂ _+_ (g .count) (ap one (sym h)) ∙ sym (count-turn _ i)
-
-  -- what user u had, and has where the role gives nothing
-  had : (u : ℕ) → u < 64 → getD rights u 0 ≡ setOf 64 (λ p. anyBelow i (roleGrants s u p t))
-  had u l = ap (λ (x : List ℕ). getD x u 0) (g .sets) ∙ get-listOf 64 _ 0 u l
-
-  kept : (u : ℕ) → ((p : ℕ) → roleGrants s u p t i ≡ false)
-      → setOf 64 (λ p. anyBelow i (roleGrants s u p t)) ≡ setOf 64 (λ p. anyBelow (i + 1) (roleGrants s u p t))
-  kept u h = setOf-same 64 _ _ (λ p l. sym (any-turn _ i ∙ ap (λ (b : Bool). anyBelow i (roleGrants s u p t) || b) (h p) ∙ or-false _))
-
-  pub gathered-out : n .rows ≤ k → Gathered s t (i + 1) rights rows
-  gathered-out m =
-      let off : roleOn s t i ≡ false = le-ltb (rowFor s i t) (rowsOf s) (omega (arith, counts-are s n (o .counts) .rows)) in
-      record {
-        sets = g .sets ∙ listOf-same 64 _ _ (λ u l. kept u (λ p. ap (λ (b : Bool). b && grants s u p t (rowFor s i t)) off));
-        count = sym (add-zero rows) ∙ counted false off;
-      }
-
-  -- its entry begins at e
-  module _ (m : k < n .rows) (e users permissions : ℕ) (ee : e ≡ 16 + 17 * u32At s (16 + 17 * n .derived + 16 * k)) (eu : users ≡ u64At s (e + 1))
-      (ep : permissions ≡ u64At s (e + 9)) where
-    below : k < rowsOf s
-    below = omega (arith, counts-are s n (o .counts) .rows)
-
-    on : roleOn s t i ≡ true
-    on = rw (← ek) (lt-ltb k (rowsOf s) below)
-
-    -- the row grants what its entry has
-    covered : true ≡ covers (cycleOf s) (rowAtByte s (rowPlace s k) .window) t
+    pub passed-out : v ≡ false → ByRows s t (i + 1) rights rows
     unfolding rowOf
-    covered = sym (row-there s i t k ek below .1)
+    passed-out h = gathered-out _ _ i rights rows g (sym at-place ∙ h) (λ u p. sym (grants-out s (rowPlace s i) t v at-place u p h))
 
-    placed : e ≡ 16 + 17 * u32At s (rowPlace s k)
-    placed = rw (counts-are s n (o .counts) .derived) at ee
+    pub passed-in : v ≡ true → ByRows s t (i + 1) (addedRow rights s (16 + 17 * n .derived + 16 * i)) (rows + 1)
+    unfolding rowOf addedRow
+    passed-in h =
+        rw (counts-are s n (o .counts) .derived)
+        (gathered-in _ _ i rights rows g _ _ (grants-entry s (rowPlace s i) t (sym at-place ∙ h)) (sym at-place ∙ h))
 
-    granted : (u p : ℕ) (b : Bool) → b ≡ grants s u p t k → roleGrants s u p t i ≡ b
-    granted u p b h = ap (λ (c : Bool). c && grants s u p t (rowFor s i t)) on ∙ ap (grants s u p t) (sym ek) ∙ sym h
+  -- role i, and its row k
+  module _ (g : ByRoles s t i rights rows) (k : ℕ) (ek : k ≡ rowFor s i t) where
+    pub searched-out : n .rows ≤ k → ByRoles s t (i + 1) rights rows
+    searched-out m =
+        let off : roleOn s t i ≡ false = le-ltb (rowFor s i t) (rowsOf s) (omega (arith, counts-are s n (o .counts) .rows)) in
+        gathered-out _ _ i rights rows g off (λ u p. ap (λ (b : Bool). b && grants s u p t (rowFor s i t)) off)
 
-    one-user : (u : ℕ) → u < 64
-        → pick (has users u) (union (getD rights u 0) permissions) (getD rights u 0) ≡ setOf 64 (λ p. anyBelow (i + 1) (roleGrants s u p t))
-    one-user u l = go (has users u) refl
-      where
-        go : (b : Bool) → has users u ≡ b
-            → pick b (union (getD rights u 0) permissions) (getD rights u 0) ≡ setOf 64 (λ p. anyBelow (i + 1) (roleGrants s u p t))
-        go true q =
-            gather-union (λ p. roleGrants s u p t) i (getD rights u 0) _ permissions (had u l)
-            (λ p d.
-            granted u p _
-            (grants-by s (rowPlace s k) t true covered refl e users placed eu u p (has users u) refl q permissions (has permissions p) ep refl))
-            refl
-        go false q =
-            had u l ∙ kept u (λ p. granted u p _ (grants-no s (rowPlace s k) t true covered refl e users placed eu u p (has users u) refl q))
+    pub searched-in : k < n .rows → ByRoles s t (i + 1) (addedRow rights s (16 + 17 * n .derived + 16 * k)) (rows + 1)
+    unfolding rowOf addedRow
+    searched-in m =
+        let below : k < rowsOf s = omega (arith, counts-are s n (o .counts) .rows) in
+        let on : roleOn s t i ≡ true = rw (← ek) (lt-ltb k (rowsOf s) below) in
+        rw (counts-are s n (o .counts) .derived)
+        (gathered-in _ _ i rights rows g _ _
+        (λ u p.
+        ap (λ (b : Bool). b && grants s u p t (rowFor s i t)) on
+        ∙ ap (grants s u p t) (sym ek) ∙ grants-entry s (rowPlace s k) t (row-there s i t k ek below .1) u p)
+        on)
 
-    pub gathered-in : Gathered s t (i + 1) (added rights users permissions) (rows + 1)
-    unfolding added
-    gathered-in = record { sets = listOf-same 64 _ _ one-user; count = counted true on }
+  -- every row, and every role
+  told : rows ≡ rowsAt (tableOf s) t → rights ≡ listOf 64 (λ u. setOf 64 (λ p. anyBelow (rowsOf s) (grants s u p t))) → IsBoard s t rights rows
+  told c r = ap₂ (λ (x : ℕ) (y : List ℕ). record { refusal = 0; rows = x; rights = y }) c (r ∙ board-is s (table-fine s (o .clear)) t)
 
--- every role
-pub gathered-all : (s : List ℕ) (n : Counts) → Opened s n → (t i : ℕ) (rights : List ℕ) (rows : ℕ) → i ≡ n .roles → Gathered s t i rights rows
-    → _≡_ {A = Board} (record { refusal = 0; rows = rows; rights = rights }) (boardTold (given (shownAt (tableOf s) t)))
-gathered-all s n o t i rights rows ei g =
-    let w : Gathered s t (rolesOf s) rights rows = rw (ei ∙ counts-are s n (o .counts) .roles) at g in
-    ap₂ (λ (x : ℕ) (y : List ℕ). record { refusal = 0; rows = x; rights = y }) (w .count ∙ count-roles s (o .clear) t)
-    (w .sets ∙ listOf-same 64 _ _ (λ u l. setOf-same 64 _ _ (λ p m. any-role s (o .clear) t u p)) ∙ board-is s (table-fine s (o .clear)) t)
+  pub passed-all : i ≡ n .rows → ByRows s t i rights rows → IsBoard s t rights rows
+  passed-all ei g =
+      let w : ByRows s t (rowsOf s) rights rows = rw (ei ∙ counts-are s n (o .counts) .rows) at g in
+      told (w .count ∙ count-rows s t) (w .sets)
+
+  pub searched-all : i ≡ n .roles → ByRoles s t i rights rows → IsBoard s t rights rows
+  searched-all ei g =
+      let w : ByRoles s t (rolesOf s) rights rows = rw (ei ∙ counts-are s n (o .counts) .roles) at g in
+      told (w .count ∙ count-roles s (o .clear) t)
+      (w .sets ∙ listOf-same 64 _ _ (λ u l. setOf-same 64 _ _ (λ p m. any-role s (o .clear) t u p)))
