@@ -140,14 +140,14 @@ fn everyone_at_once() -> Table {
     Table { cycle: 40_320, users: 64, permissions: 64, roles: 32, derived, rows }
 }
 
-/// One role in five has 40 rows, the others one each, for one minute in so many: a search that
+/// One role in five has 100 rows, the others one each, for one minute in so many: a search that
 /// begins where it would end if the next role had as many rows as the last one begins far off. Of
 /// several such tables this one was the worst for the board.
 fn uneven_roles() -> Table {
     let entry = |source| DerivedRole { source, users: 0xff << source, permissions: 0xff };
     let rows = (0..32).flat_map(|derived| {
-        let count = if derived % 5 == 3 { 40 } else { 1 };
-        let row = move |i: u16| Row { derived, begin: 0, end: END, offset: 1_000 * i, length: 1 };
+        let count = if derived % 5 == 3 { 100 } else { 1 };
+        let row = move |i: u16| Row { derived, begin: 0, end: END, offset: 400 * i, length: 1 };
         (0..count).map(row)
     });
     let (derived, rows) = ((0..32).map(entry).collect(), rows.collect());
