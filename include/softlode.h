@@ -144,7 +144,7 @@ softlode_next softlode_table_next(const uint8_t *table, size_t length, uint32_t 
 
 /*
  * The staff board of the minute, by the table: each volunteer's set has the rights for which a question would be a yes, and no other; or the
- * table's refusals, 33. It takes as long as reading the table, and some microseconds more at the most.
+ * table's refusals, 33. It takes as long as reading the table, and some microseconds more.
  */
 softlode_board softlode_table_board(const uint8_t *table, size_t length, uint32_t minute);
 

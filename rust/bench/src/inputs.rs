@@ -141,8 +141,8 @@ fn everyone_at_once() -> Table {
 }
 
 /// One role in five has 100 rows, the others one each, for one minute in so many: a search that
-/// begins where it would end if the next role had as many rows as the last one begins far off. Of
-/// several such tables this one was the worst for the board.
+/// begins where it would end if the next role had as many rows as the last one begins far off.
+/// Other such tables take the board longer yet (docs/PERFORMANCE.md has the worst that was found).
 fn uneven_roles() -> Table {
     let entry = |source| DerivedRole { source, users: 0xff << source, permissions: 0xff };
     let rows = (0..32).flat_map(|derived| {

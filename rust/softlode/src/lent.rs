@@ -235,7 +235,7 @@ impl<'a> Table<'a> {
 
     /// The staff board of the minute: what everyone may use then; or 33. Each volunteer has the
     /// rights for which [`may`](Table::may) would be a yes, and no other. It takes as long as
-    /// [`read`](Table::read), and some microseconds more at the most.
+    /// [`read`](Table::read), and some microseconds more.
     ///
     /// ```
     /// use softlode::{Refusal, Table, minute};
