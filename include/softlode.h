@@ -7,18 +7,21 @@
  * What holds of every function here:
  *
  * - Any bytes and any numbers are safe. A call ends with its answer or with one refusal, whose number stands in `refusal` (0 where there is
- *   none); values that an answer does not have are 0. A refusal writes no byte of an output area and leaves the service record as it came.
- *   No call loops for ever, allocates, opens a file, reads a clock, or keeps anything between calls.
- * - The caller owns all memory. Bytes are lent as a pointer and a length for the time of the call; no pointer is kept. The library reads
- *   within the length, and writes only within an output area and to a service record.
+ *   none; a page gives the number itself); values that an answer does not have are 0. A refusal writes no byte of an output area or of a
+ *   list of questions, and leaves the service record as it came. No call loops for ever, allocates, opens a file, reads a clock, or keeps
+ *   anything between calls.
+ * - The caller owns all memory. Bytes are lent as a pointer and a length for the time of the call, questions as a pointer and a count; no
+ *   pointer is kept. The library reads within the length, and writes only within an output area, to a service record, and to the answers of
+ *   questions.
  * - A null pointer with length 0 is an empty input: a rota of no bytes is refusal 1, a table refusal 21. As an output area it is an area
- *   of no bytes: refusal 20, unless the rota is refused. A null pointer with another length, and a null service record, are errors of the
- *   caller that no library can see.
- * - Lent memory must not overlap: the bytes, the output area and the service record are three different pieces of memory, and nobody else
- *   writes them during the call; where they do, the outcome is undefined. Bytes that are only read may be shared by any number of calls at
- *   the same time.
- * - Calls on different records (and on different output areas) may run at the same time, on any threads. There is no global state. Calls on
- *   one record come one after the other, asks too: an ask leaves the record's values, but may store them again.
+ *   of no bytes: refusal 20, unless the rota is refused; with count 0 it is a list of no questions. A null pointer with another length or
+ *   count, and a null service record, are errors of the caller that no library can see.
+ * - Lent memory must not overlap: the bytes, the output area, the service record and the questions are different pieces of memory, and
+ *   nobody else writes them during the call; where they do, the outcome is undefined. Bytes that are only read may be shared by any number
+ *   of calls at the same time.
+ * - Calls on different records (and on different output areas and lists of questions) may run at the same time, on any threads. There is no
+ *   global state. Calls on one record come one after the other, asks too: an ask leaves the record's values, but may store them again; so
+ *   may a page the other fields of its questions.
  * - Stack: softlode_rewrite takes less than 1 MiB, whatever the rota; every other call less than 4 KiB.
  * - Every number that is passed has at least 32 bits, so that 256 is refused and never wraps to 0.
  *
@@ -31,6 +34,7 @@
  *   rewriting          those of a rota, then 20
  *   reading a table    21, 22, 23, 24, 25; then each derived role in turn 26; then each row in turn 27, 28
  *   a question         those of the bytes, then 33, 34, 35
+ *   a page             51, then those of the bytes; then in the place of each question 33, 34, 35
  *   the next use       those of a table, then 33, 34, 35
  *   the staff board    those of a table, then 33
  *   a service call     those of the bytes, then 40; then advance 33, 41; open 34, 42, 43; close 34, 44; ask 34, 35, 44
@@ -98,6 +102,21 @@ typedef struct softlode_board {
     uint64_t rights[64];  /* the set of rights of each volunteer; empty past the last volunteer */
 } softlode_board;
 
+/* The answer to a question on a page. */
+typedef struct softlode_place {
+    uint32_t refusal;     /* 33, 34, 35, or 0 */
+    uint32_t yes;         /* 1 yes, 0 no */
+    uint32_t role;        /* a yes: the lowest role that grants it */
+} softlode_place;
+
+/* A question on a page, and the place for its answer. */
+typedef struct softlode_question {
+    uint32_t volunteer;
+    uint32_t right;
+    uint32_t minute;
+    softlode_place answer;
+} softlode_question;
+
 /*
  * The service record. The host keeps one, starts it as { 0, 0 }, and lends it to each call: no call needs another. Its two fields may be
  * read, stored and restored at any time between calls (the bytes between them mean nothing); a record that does not fit the lent bytes is
@@ -134,6 +153,14 @@ softlode_table softlode_table_read(const uint8_t *table, size_t length);
 /* May the volunteer use the right at the minute? Yes with the lowest role, no, or the bytes' refusals, 33, 34, 35. */
 softlode_told softlode_rota_question(const uint8_t *rota, size_t length, uint32_t volunteer, uint32_t right, uint32_t minute);
 softlode_told softlode_table_question(const uint8_t *table, size_t length, uint32_t volunteer, uint32_t right, uint32_t minute);
+
+/*
+ * A page of up to 256 questions to the same bytes, which are judged once. Gives 0, and each place has what the single question would give, 33, 34
+ * and 35 included; or 51 for more than 256 questions, whatever they and the bytes are; or the bytes' refusals. Where it gives a refusal no place is
+ * written. Other fields of the questions keep their contents. A list of no questions is fine, and its bytes are judged.
+ */
+uint32_t softlode_rota_page(softlode_question *questions, size_t count, const uint8_t *rota, size_t length);
+uint32_t softlode_table_page(softlode_question *questions, size_t count, const uint8_t *table, size_t length);
 
 /*
  * When can the volunteer next use the right, by the table? The first minute from `minute` on, that one included, at which a question would be
@@ -217,6 +244,7 @@ static inline const char *softlode_meaning(uint32_t refusal) {
     case 43: return "the volunteer holds no right now";
     case 44: return "the volunteer's session is not open";
     case 50: return "the date or time does not exist or is not in 2001 to 2400";
+    case 51: return "a page has more than 256 questions";
     default: return "a number that this version does not know";
     }
 }

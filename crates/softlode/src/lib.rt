@@ -15,11 +15,13 @@ ghost use Rattle.table.specs.Answers.{readOutcome as tableRead};
 ghost use Rattle.board.specs.Board.{boardTold, boardOutcome};
 ghost use Rattle.derivation.specs.Rewriting.{rewriteOutcome, areaAfter};
 ghost use Rattle.lent.specs.declared.Kind.the-variants as Kind;
+ghost use Rattle.page.specs.Page.{pageJudged, pageAfter};
 ghost use Rattle.machine.specs.Machine.{advance, «open», close, ask};
 ghost use Rattle.service.specs.LentStep.{lentStep};
 ghost use Rattle.told.specs.Told.{questionTold, nextTold, leaving, steppedBy, rotaTold, tableTold, writtenTold, dateTold, minuteTold};
 use board::Board;
 use machine::Service;
+use page::Question;
 use told::DateTold;
 use told::MinuteTold;
 use told::NextTold;
@@ -99,6 +101,33 @@ pub extern "C" fn softlode_table_board(s: &[u8], t: u32) -> Board
     ensures { λ r. ⌜ r ≡ boardTold (boardOutcome (now (s .entry)) t) ⌝ }
 {
     board::board_at(s, t)
+}
+
+// A page of questions, on a rota and on a table: each record's place receives its answer.
+#[no_mangle]
+pub extern "C" fn softlode_rota_page(questions: &mut [Question], s: &[u8]) -> u32
+    ensures { λ r. ⌜ (r ≡ pageJudged Kind.Rota (length (now (questions .entry))) (now (s .entry))) × (now (questions .exit) ≡ pageAfter Kind.Rota (now (s .entry)) (now (questions .entry))) ⌝ }
+{
+    let b = page::begin_rota(questions.len(), s);
+    let mut i = 0;
+    while i < b.count {
+        questions[i] = page::answer_one(questions[i], s, b);
+        i += 1;
+    }
+    b.refusal
+}
+
+#[no_mangle]
+pub extern "C" fn softlode_table_page(questions: &mut [Question], s: &[u8]) -> u32
+    ensures { λ r. ⌜ (r ≡ pageJudged Kind.Table (length (now (questions .entry))) (now (s .entry))) × (now (questions .exit) ≡ pageAfter Kind.Table (now (s .entry)) (now (questions .entry))) ⌝ }
+{
+    let b = page::begin_table(questions.len(), s);
+    let mut i = 0;
+    while i < b.count {
+        questions[i] = page::answer_one(questions[i], s, b);
+        i += 1;
+    }
+    b.refusal
 }
 
 // The four calls on a lent record, with a rota and with a table.

@@ -2,12 +2,12 @@
 //!
 //! What the safety comments rest on, all of it promised by the header: the functions take any
 //! bytes and any numbers; they read within the length of what is lent, write only within an
-//! output area and to a service record, and keep no pointer. A reference to lend is valid, and an
-//! exclusive one overlaps nothing else.
+//! output area, to a service record and to a list of questions, and keep no pointer. A reference to
+//! lend is valid, and an exclusive one overlaps nothing else.
 
 #![allow(unsafe_code)]
 
-use crate::{DateTime, Lent, Refusal, RotaCounts, Service, TableCounts};
+use crate::{DateTime, Lent, Question, Refusal, RotaCounts, Service, TableCounts};
 
 /// What a function tells: the number of a refusal, or 0 and values. All fields of the values are
 /// `u32`, so that they lie as in the flat struct of the header.
@@ -78,7 +78,8 @@ pub struct BoardTold {
     pub rights: [u64; 64],
 }
 
-type Question = unsafe extern "C" fn(*const u8, usize, u32, u32, u32) -> Told<Answer>;
+type Single = unsafe extern "C" fn(*const u8, usize, u32, u32, u32) -> Told<Answer>;
+type Page = unsafe extern "C" fn(*mut Question, usize, *const u8, usize) -> u32;
 type Call = unsafe extern "C" fn(*mut Service, *const u8, usize, u32) -> Told<Answer>;
 type Ask = unsafe extern "C" fn(*mut Service, *const u8, usize, u32, u32) -> Told<Answer>;
 
@@ -88,6 +89,8 @@ unsafe extern "C" {
     fn softlode_table_read(table: *const u8, length: usize) -> Told<TableCounts>;
     fn softlode_rota_question(rota: *const u8, length: usize, volunteer: u32, right: u32, minute: u32) -> Told<Answer>;
     fn softlode_table_question(table: *const u8, length: usize, volunteer: u32, right: u32, minute: u32) -> Told<Answer>;
+    fn softlode_rota_page(questions: *mut Question, count: usize, rota: *const u8, length: usize) -> u32;
+    fn softlode_table_page(questions: *mut Question, count: usize, table: *const u8, length: usize) -> u32;
     fn softlode_table_next(table: *const u8, length: usize, volunteer: u32, right: u32, minute: u32) -> Told<NextUse>;
     fn softlode_table_board(table: *const u8, length: usize, minute: u32) -> BoardTold;
     fn softlode_rewrite(rota: *const u8, length: usize, area: *mut u8, size: usize) -> WrittenTold;
@@ -128,9 +131,16 @@ fn choose<'a, F>(lent: Lent<'a>, for_rota: F, for_table: F) -> (F, &'a [u8]) {
 
 pub fn question(lent: Lent, volunteer: u32, right: u32, minute: u32) -> Told<Answer> {
     let (function, bytes) =
-        choose::<Question>(lent, softlode_rota_question, softlode_table_question);
+        choose::<Single>(lent, softlode_rota_question, softlode_table_question);
     // SAFETY: the bytes are lent for the time of the call.
     unsafe { function(bytes.as_ptr(), bytes.len(), volunteer, right, minute) }
+}
+
+pub fn page(lent: Lent, questions: &mut [Question]) -> u32 {
+    let (function, bytes) = choose::<Page>(lent, softlode_rota_page, softlode_table_page);
+    // SAFETY: the bytes and the questions are lent for the time of the call, the questions
+    // exclusively.
+    unsafe { function(questions.as_mut_ptr(), questions.len(), bytes.as_ptr(), bytes.len()) }
 }
 
 pub fn table_next(table: &[u8], volunteer: u32, right: u32, minute: u32) -> Told<NextUse> {
@@ -179,6 +189,7 @@ pub fn minute(year: u32, month: u32, day: u32, hour: u32, minute: u32) -> Told<u
 #[cfg(test)]
 mod tests {
     use super::*;
+    use crate::Place;
     use std::mem::{align_of, offset_of, size_of};
     use std::ptr::{null, null_mut};
 
@@ -194,6 +205,8 @@ mod tests {
         assert_eq!(offset_of!(Told<Answer>, values), 4);
         assert_eq!((size_of::<WrittenTold>(), offset_of!(WrittenTold, length)), (24, 16));
         assert_eq!((size_of::<BoardTold>(), offset_of!(BoardTold, rights)), (520, 8));
+        assert_eq!((size_of::<Place>(), size_of::<Question>()), (12, 24));
+        assert_eq!((align_of::<Question>(), offset_of!(Question, answer)), (4, 12));
         assert_eq!((size_of::<Service>(), offset_of!(Service, open)), (16, 8));
         assert_eq!(align_of::<Service>(), 8);
     }
@@ -210,9 +223,19 @@ mod tests {
             assert_eq!(softlode_table_read(null(), 0).refusal, 21);
             assert_eq!(softlode_rewrite(null(), 0, null_mut(), 0).refusal, 1);
             assert_eq!(softlode_rewrite(small.as_ptr(), small.len(), null_mut(), 0).refusal, 20);
-            for question in [softlode_rota_question as Question, softlode_table_question] {
+            for question in [softlode_rota_question as Single, softlode_table_question] {
                 assert!(matches!(told(question(null(), 0, 0, 0, 0)), Err(1 | 21)));
             }
+            let mut one = Question::new(0, 0, 3);
+            for (page, bad) in [(softlode_rota_page as Page, 1), (softlode_table_page, 21)] {
+                assert_eq!(page(null_mut(), 0, null(), 0), bad);
+                assert_eq!(page(&mut one, 1, null(), 0), bad);
+            }
+            assert_eq!(one, Question::new(0, 0, 3));
+            assert_eq!(softlode_rota_page(null_mut(), 0, small.as_ptr(), small.len()), 0);
+            // More than 256 by the count alone: nothing is looked at.
+            assert_eq!(softlode_rota_page(null_mut(), 257, null(), 0), 51);
+            assert_eq!(softlode_table_page(null_mut(), usize::MAX, null(), 0), 51);
             assert_eq!(softlode_table_next(null(), 0, 0, 0, 0).refusal, 21);
             assert_eq!(softlode_table_board(null(), 0, 0).refusal, 21);
             for ask in [softlode_rota_ask as Ask, softlode_table_ask] {

@@ -1,6 +1,6 @@
 //! What is lent to a call: the bytes of a rota or of a table.
 
-use crate::{Refusal, ffi};
+use crate::{Question, Refusal, ffi};
 
 /// The bytes of a rota or of a table, lent to a call. Which they are is the caller's word, not
 /// seen in the bytes; each call judges them anew, so any bytes may be lent.
@@ -125,6 +125,11 @@ impl<'a> Rota<'a> {
         Lent::from(self).may(volunteer, right, minute)
     }
 
+    /// Answers a page of up to 256 questions, or 51; see [`Lent::page`].
+    pub fn page(&self, questions: &mut [Question]) -> Result<(), Refusal> {
+        Lent::from(self).page(questions)
+    }
+
     /// Rewrites the rota to its table, at the start of the area; the bytes past it stay. Or 20,
     /// where the area is too small, and then all of it stays. Takes less than 1 MiB of stack.
     ///
@@ -206,6 +211,11 @@ impl<'a> Table<'a> {
     /// As [`Rota::may`].
     pub fn may(&self, volunteer: u32, right: u32, minute: u32) -> Result<Option<u32>, Refusal> {
         Lent::from(self).may(volunteer, right, minute)
+    }
+
+    /// As [`Rota::page`].
+    pub fn page(&self, questions: &mut [Question]) -> Result<(), Refusal> {
+        Lent::from(self).page(questions)
     }
 
     /// When can the volunteer next use the right? The first minute from `minute` on, that one

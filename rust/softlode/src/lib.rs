@@ -5,7 +5,7 @@
 //! records may run at the same time. Every call judges the bytes that are lent to it anew.
 //!
 //! ```
-//! use softlode::{Refusal, Rota, Service, Table, date, minute};
+//! use softlode::{Question, Refusal, Rota, Service, Table, date, minute};
 //!
 //! let rota = Rota::read(include_bytes!("../../../data/week.rota"))?;
 //! let mut area = [0; 65_536];
@@ -25,6 +25,11 @@
 //! let board = table.board(next)?;
 //! assert_eq!(board.rights_of(5).collect::<Vec<_>>(), [8]);
 //! assert!(!board.may(0, 8));
+//!
+//! // A page greys out its buttons: a list of questions, each with a place for its answer.
+//! let mut page = [6, 8].map(|right| Question::new(5, right, next));
+//! table.page(&mut page)?;
+//! assert_eq!(page.map(|question| question.answer.role()), [Ok(None), Ok(Some(4))]);
 //! # Ok::<(), Refusal>(())
 //! ```
 
@@ -35,10 +40,12 @@
 mod calendar;
 mod ffi;
 mod lent;
+mod page;
 mod refusal;
 mod service;
 
 pub use calendar::{DateTime, LAST_MINUTE, date, minute};
 pub use lent::{Board, Lent, Rota, RotaCounts, Table, TableCounts, Written};
+pub use page::{Place, Question};
 pub use refusal::Refusal;
 pub use service::Service;

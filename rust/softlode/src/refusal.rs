@@ -90,4 +90,5 @@ refusals! {
     NO_RIGHT_NOW = 43: "the volunteer holds no right now";
     NOT_OPEN = 44: "the volunteer's session is not open";
     NO_SUCH_DATE = 50: "the date or time does not exist or is not in 2001 to 2400";
+    PAGE_TOO_LONG = 51: "a page has more than 256 questions";
 }

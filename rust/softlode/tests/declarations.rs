@@ -9,27 +9,34 @@ const INTERFACE: &str = include_str!("../../../crates/softlode/src/lib.rt");
 const STRUCTURES: &str = concat!(
     include_str!("../../../crates/told/src/lib.rt"),
     include_str!("../../../crates/board/src/lib.rt"),
+    include_str!("../../../crates/page/src/lib.rt"),
     include_str!("../../../crates/machine/src/lib.rt"),
 );
 const WRAPPER: &str = concat!(
     include_str!("../src/ffi.rs"),
     include_str!("../src/lent.rs"),
+    include_str!("../src/page.rs"),
     include_str!("../src/service.rs"),
     include_str!("../src/calendar.rs"),
 );
 
 /// The structs as the header, the proved crates and the wrapper name them.
-const STRUCTS: [[&str; 3]; 9] = [
+const STRUCTS: [[&str; 3]; 11] = [
     ["softlode_rota", "RotaTold", "Told<RotaCounts>"],
     ["softlode_table", "TableTold", "Told<TableCounts>"],
     ["softlode_written", "WrittenTold", "WrittenTold"],
     ["softlode_told", "Told", "Told<Answer>"],
     ["softlode_next", "NextTold", "Told<NextUse>"],
     ["softlode_board", "Board", "BoardTold"],
+    ["softlode_place", "Place", "Place"],
+    ["softlode_question", "Question", "Question"],
     ["softlode_service", "Service", "Service"],
     ["softlode_date_time", "DateTold", "Told<DateTime>"],
     ["softlode_minute_number", "MinuteTold", "Told<u32>"],
 ];
+
+/// A number, where a function gives no struct but that.
+const NUMBER: [&str; 3] = ["uint32_t", "u32", "u32"];
 
 /// What stands between the first `start` and the next `end` after it.
 fn between<'a>(text: &'a str, start: &str, end: &str) -> &'a str {
@@ -60,6 +67,7 @@ fn rust_fields(text: &str, name: &str) -> Vec<String> {
         .map(|line| line.trim().trim_start_matches("pub ").trim_end_matches(','))
         .filter(|line| !line.is_empty() && !line.starts_with("//"))
         .map(|line| line.replace("user", "volunteer").replace("permission", "right"))
+        .map(|line| line.replace(": Place", ": softlode_place"))
         .collect()
 }
 
@@ -77,7 +85,8 @@ fn the_same_fields() {
     }
 }
 
-/// A function's name, its parameters as C passes them, and which of the structs it gives.
+/// A function's name, its parameters as C passes them, and which of the structs it gives, or past
+/// them a number.
 type Function = (String, String, usize);
 
 /// `kinds` says how a text names the types of parameters, `column` how it names the structs.
@@ -92,7 +101,7 @@ fn function<'a>(
         let known = kinds.iter().find(|(kind, _)| *kind == parameter);
         known.unwrap_or_else(|| panic!("{name}: {parameter}")).1
     });
-    let gives = STRUCTS.iter().position(|names| names[column] == gives);
+    let gives = STRUCTS.iter().chain([&NUMBER]).position(|names| names[column] == gives);
     let gives = gives.unwrap_or_else(|| panic!("{name} gives another"));
     (name.into(), passed.collect::<Vec<_>>().join(" "), gives)
 }
@@ -122,12 +131,13 @@ fn c_functions() -> Vec<Function> {
         ("const uint8_t *", "bytes"),
         ("uint8_t *", "area"),
         ("softlode_service *", "record"),
+        ("softlode_question *", "questions"),
         ("size_t ", "size"),
         ("uint32_t ", "number"),
     ];
     let mut found: Vec<_> = HEADER
         .lines()
-        .filter(|line| line.starts_with("softlode_"))
+        .filter(|line| line.starts_with("softlode_") || line.starts_with("uint32_t softlode_"))
         .map(|line| {
             let (gives, rest) = line.split_once(" softlode_").expect("a type and a name");
             let (name, rest) = rest.split_once('(').expect("parameters");
@@ -145,11 +155,12 @@ fn c_functions() -> Vec<Function> {
 #[test]
 fn the_same_functions() {
     let expected = c_functions();
-    assert_eq!(expected.len(), 17);
+    assert_eq!(expected.len(), 19);
     let kinds = [
         ("&[u8]", "bytes size"),
         ("&mut [u8]", "area size"),
         ("&mut Service", "record"),
+        ("&mut [Question]", "questions size"),
         ("u32", "number"),
     ];
     assert_eq!(rust_functions(INTERFACE, &kinds, 1), expected);
@@ -157,6 +168,7 @@ fn the_same_functions() {
         ("*const u8", "bytes"),
         ("*mut u8", "area"),
         ("*mut Service", "record"),
+        ("*mut Question", "questions"),
         ("usize", "size"),
         ("u32", "number"),
     ];
