@@ -20,12 +20,14 @@ _Static_assert(sizeof(softlode_written) == 24 && offsetof(softlode_written, leng
 _Static_assert(sizeof(softlode_told) == 12 && offsetof(softlode_told, value) == 8, "softlode_told");
 _Static_assert(sizeof(softlode_next) == 12 && offsetof(softlode_next, minute) == 8, "softlode_next");
 _Static_assert(sizeof(softlode_board) == 520 && offsetof(softlode_board, rights) == 8, "softlode_board");
+_Static_assert(sizeof(softlode_place) == 12 && offsetof(softlode_place, role) == 8, "softlode_place");
+_Static_assert(sizeof(softlode_question) == 24 && offsetof(softlode_question, answer) == 12, "softlode_question");
 _Static_assert(sizeof(softlode_service) == 16 && offsetof(softlode_service, open) == 8, "softlode_service");
 _Static_assert(sizeof(softlode_date_time) == 28 && offsetof(softlode_date_time, minute) == 24, "softlode_date_time");
 _Static_assert(sizeof(softlode_minute_number) == 8 && offsetof(softlode_minute_number, minute) == 4, "softlode_minute_number");
 
 /* No rota has more than 4460 bytes, so what a file has past this many makes no difference: it is too long. */
-enum { FILE_LIMIT = 8192, AREA_SIZE = 65536, HOUR = 60, DAY = 24 * HOUR };
+enum { FILE_LIMIT = 8192, AREA_SIZE = 65536, PAGE_LIMIT = 256, HOUR = 60, DAY = 24 * HOUR };
 
 /* The two services, and what they have been doing. */
 struct host {
@@ -171,6 +173,28 @@ static void show_board(const struct host *host, softlode_rota counts, uint32_t m
     printf(is_anyone ? "  nobody else may use a right\n" : "  nobody may use a right\n");
 }
 
+/* The page of a volunteer at a minute, as a tree viewer shows it: a button for each right, grey where it may not be used. One page to the rota and
+ * one to the table answer all, and single questions must say the same. */
+static void show_page(const struct host *host, softlode_rota counts, uint32_t volunteer, uint32_t minute) {
+    softlode_question page[PAGE_LIMIT], mirror[PAGE_LIMIT];
+    for (uint32_t right = 0; right < counts.rights; right++)
+        page[right] = mirror[right] = (softlode_question){.volunteer = volunteer, .right = right, .minute = minute};
+    if (softlode_rota_page(page, counts.rights, host->rota, host->rota_length) != 0 ||
+        softlode_table_page(mirror, counts.rights, host->table, host->table_length) != 0)
+        fail(1, "a page is refused", "");
+    show_date(minute);
+    printf(" page of volunteer %" PRIu32 ":", volunteer);
+    for (uint32_t right = 0; right < counts.rights; right++) {
+        softlode_place place = page[right].answer, other = mirror[right].answer;
+        softlode_told told = question(host, volunteer, right, minute);
+        if (place.refusal != told.refusal || place.yes != told.yes || place.role != told.value || other.refusal != told.refusal ||
+            other.yes != told.yes || other.role != told.value)
+            fail(1, "a page and a question disagree", "");
+        printf(place.yes ? " [%" PRIu32 "]" : " %" PRIu32, right);
+    }
+    printf("\n");
+}
+
 static void show_when(uint32_t minute, const char *after) {
     printf(" on ");
     show_date(minute);
@@ -201,6 +225,7 @@ static void show_next(const struct host *host, softlode_rota counts, uint32_t mi
 /* Damaged bytes and wrong numbers: each is one refusal, and leaves the record. */
 static void show_refusals(struct host *host, uint8_t *rota) {
     uint8_t small[8];
+    static softlode_question long_page[PAGE_LIMIT + 1];
     show_refusal("the rota without its last byte: ", softlode_rota_read(rota, host->rota_length - 1).refusal);
     rota[0] ^= 0xff;
     show_refusal("the rota with another first byte: ", softlode_rota_read(rota, host->rota_length).refusal);
@@ -209,6 +234,7 @@ static void show_refusals(struct host *host, uint8_t *rota) {
     show_refusal("the table without its last byte: ", softlode_table_read(host->table, host->table_length - 1).refusal);
     show_refusal("the next use by volunteer 256: ", softlode_table_next(host->table, host->table_length, 256, 0, 0).refusal);
     show_refusal("the board of minute 210379680: ", softlode_table_board(host->table, host->table_length, 210379680).refusal);
+    show_refusal("a page of 257 questions: ", softlode_table_page(long_page, PAGE_LIMIT + 1, host->table, host->table_length));
     show_refusal("an open of volunteer 256: ", open_session(host, 256).refusal);
     show_refusal("an advance to minute 0: ", advance(host, 0).refusal);
     show_refusal("29 February 2023: ", softlode_minute(2023, 2, 29, 0, 0).refusal);
@@ -235,6 +261,7 @@ int main(int argc, char **argv) {
     for (uint32_t hour = 0; hour < 7 * 24; hour++) spend_hour(&host, counts, monday + HOUR * hour);
     show_users(&host, counts, monday + 2 * DAY + 11 * HOUR);
     show_board(&host, counts, monday + 2 * DAY + 11 * HOUR);
+    for (uint32_t volunteer = 0; volunteer < counts.volunteers; volunteer++) show_page(&host, counts, volunteer, monday + 2 * DAY + 11 * HOUR);
     show_next(&host, counts, monday + 7 * DAY);
     show_refusals(&host, rota);
     printf("%u advances closed %u; %u opens, %u closes, %u yes, %u no, %u refused; at ", host.advances, host.closed, host.opens, host.closes,

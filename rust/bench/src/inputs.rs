@@ -9,7 +9,7 @@ use comparison::ffi;
 use reference::rota::Rota;
 use reference::set;
 use reference::table::{DerivedRole, Row, Table};
-use reference::{END, rewriting};
+use reference::{END, page, rewriting};
 
 /// How many questions each input has; they are asked in turn.
 const QUESTIONS: usize = 256;
@@ -110,6 +110,16 @@ impl Input {
 
     pub fn question(&self, i: usize) -> Question {
         self.questions[i % QUESTIONS]
+    }
+
+    /// The first questions as the records of a page; or, as a viewer asks, all for one minute.
+    pub fn page(&self, count: usize, is_one_minute: bool) -> Vec<page::Question> {
+        let minute = |i: usize| self.question(if is_one_minute { 0 } else { i }).minute;
+        let record = |i| {
+            let Question { user, permission, .. } = self.question(i);
+            page::Question { user, permission, minute: minute(i), ..page::Question::default() }
+        };
+        (0..count).map(record).collect()
     }
 }
 

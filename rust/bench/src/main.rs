@@ -15,7 +15,7 @@ use comparison::ffi;
 use reference::rewriting::Written;
 use reference::service::{Call, Lent, State};
 use reference::{END, Refusal};
-use tuned::policy::{holders, question};
+use tuned::policy::{holders, page, question};
 use tuned::rota::Rota;
 use tuned::service::serve;
 use tuned::table::Table;
@@ -95,6 +95,10 @@ fn in_words(seconds: f64) -> String {
     }
 }
 
+/// Pages of so many questions, all for one minute or each for its own.
+const PAGES: [(&str, usize, bool); 3] =
+    [("page of 1", 1, true), ("page of 256", 256, false), ("page of 256, one minute", 256, true)];
+
 fn rota(input: &Input, report: &mut Report) {
     let (name, Some(bytes)) = (input.name, input.rota()) else { return };
     let times = time(|_| ffi::rota::read(black_box(bytes)), |_| Rota::read(black_box(bytes)));
@@ -110,6 +114,16 @@ fn rota(input: &Input, report: &mut Report) {
         },
     );
     report.print("rota question", name, times);
+    for (operation, count, is_one_minute) in PAGES {
+        let (mut ours, mut theirs) =
+            (input.page(count, is_one_minute), input.page(count, is_one_minute));
+        let times = time(
+            |_| ffi::rota::page(black_box(bytes), &mut ours),
+            |_| page(|| Rota::read(black_box(bytes)), &mut theirs),
+        );
+        assert!(ours == theirs, "the two pages differ");
+        report.print(&format!("rota {operation}"), name, times);
+    }
     let minute = |i: usize| input.question(i).minute;
     let times = time(
         |i| ffi::rota::holders(black_box(bytes), minute(i)),
@@ -134,6 +148,16 @@ fn table(input: &Input, report: &mut Report) {
         },
     );
     report.print("table question", name, times);
+    for (operation, count, is_one_minute) in PAGES {
+        let (mut ours, mut theirs) =
+            (input.page(count, is_one_minute), input.page(count, is_one_minute));
+        let times = time(
+            |_| ffi::table::page(black_box(bytes), &mut ours),
+            |_| page(|| Table::read(black_box(bytes)), &mut theirs),
+        );
+        assert!(ours == theirs, "the two pages differ");
+        report.print(&format!("table {operation}"), name, times);
+    }
     let minute = |i: usize| input.question(i).minute;
     let times = time(
         |i| ffi::table::holders(black_box(bytes), minute(i)),

@@ -10,7 +10,7 @@ use std::process::ExitCode;
 use std::time::Instant;
 
 use cases::case::{Case, Tally, seed, setting};
-use comparison::compare::{calendar, hours, rewriting, rota, service, table};
+use comparison::compare::{calendar, hours, page, rewriting, rota, service, table};
 
 const DEFAULT_CASES: u64 = 10_000_000;
 
@@ -25,13 +25,15 @@ const fn kind(name: &'static str, share: u64, compare: fn(&mut Case, &mut Tally)
     Kind { name, share, compare }
 }
 
-const KINDS: [Kind; 24] = [
-    kind("rota well formed", 170, rota::well_formed),
-    kind("rota several faults", 200, rota::several_faults),
+const KINDS: [Kind; 26] = [
+    kind("rota well formed", 165, rota::well_formed),
+    kind("rota several faults", 195, rota::several_faults),
     kind("rota any bytes", 50, rota::any_bytes),
     kind("table by hand", 100, table::by_hand),
     kind("table next uses", 30, table::next_uses),
     kind("table boards", 20, table::boards),
+    kind("page on a rota", 5, page::on_rotas),
+    kind("page on a table", 5, page::on_tables),
     kind("table rewritten", 30, table::rewritten),
     kind("table several faults", 150, table::several_faults),
     kind("table huge counts", 10, table::huge_counts),
@@ -54,7 +56,7 @@ const KINDS: [Kind; 24] = [
 
 /// Every refusal that there is.
 fn refusals() -> impl Iterator<Item = u32> {
-    (1..=12).chain(20..=28).chain(33..=35).chain(40..=44).chain([50])
+    (1..=12).chain(20..=28).chain(33..=35).chain(40..=44).chain([50, 51])
 }
 
 /// What the cases of these numbers reached, and how many of them disagreed. Each of these has

@@ -6,6 +6,8 @@ pub mod hours;
 
 #[cfg(feature = "rota")]
 pub mod asked;
+#[cfg(feature = "table")]
+pub mod page;
 #[cfg(feature = "rewriting")]
 pub mod rewriting;
 #[cfg(feature = "rota")]

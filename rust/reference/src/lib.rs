@@ -12,6 +12,7 @@ pub mod calendar;
 pub mod edges;
 pub mod hours;
 pub mod listing;
+pub mod page;
 pub mod policy;
 pub mod rewriting;
 pub mod rota;

@@ -6,6 +6,7 @@ use cases::{data, joining};
 use reference::END;
 use reference::hours::{Hours, HoursRef};
 use reference::listing;
+use reference::page::{Question, page};
 use reference::policy::{Policy, question};
 use reference::rewriting::{self, rewrite};
 use reference::rota::{Rota, Row};
@@ -136,6 +137,29 @@ fn worked_minutes() {
         assert_eq!(question(policy, 1, 1, 0), Err(35));
         assert_eq!(question(policy, 1, 256, 0), Err(35));
     }
+}
+
+#[test]
+fn worked_pages() {
+    let rota = small();
+    let table = rewriting::table(&rota);
+    let asked = |user, minute| Question { user, permission: 0, minute, ..Question::default() };
+    let list = [asked(0, 3), asked(0, 4), asked(1, 12), asked(9, END), asked(2, 0)];
+    for policy in [&rota as &dyn Policy, &table] {
+        let after = page(Ok(policy), &list).unwrap();
+        let answers: Vec<_> = after
+            .iter()
+            .map(|question| (question.answer.refusal, question.answer.yes, question.answer.role))
+            .collect();
+        assert_eq!(answers, [(0, 1, 0), (0, 0, 0), (0, 1, 0), (33, 0, 0), (34, 0, 0)]);
+        let kept = |question: &Question| (question.user, question.permission, question.minute);
+        assert!(after.iter().map(kept).eq(list.iter().map(kept)));
+        assert_eq!(page(Ok(policy), &[]), Ok(vec![]));
+        assert_eq!(page(Ok(policy), &[list[1]; 256]), Ok(vec![after[1]; 256]));
+        assert_eq!(page(Ok(policy), &[list[1]; 257]), Err(51));
+    }
+    assert_eq!(page(Err(9), &[]), Err(9));
+    assert_eq!(page(Err(9), &[list[1]; 257]), Err(51));
 }
 
 #[test]

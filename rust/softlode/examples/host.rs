@@ -9,7 +9,7 @@ use std::fmt::{Display, Write};
 use std::io::Write as _;
 use std::process::ExitCode;
 
-use softlode::{Lent, Refusal, Rota, Service, Table, date, minute};
+use softlode::{Lent, Question, Refusal, Rota, Service, Table, date, minute};
 
 const HOUR: u32 = 60;
 const DAY: u32 = 24 * HOUR;
@@ -145,6 +145,27 @@ impl Host<'_> {
         Ok(())
     }
 
+    /// The page of a volunteer at a minute, as a tree viewer shows it: a button for each right,
+    /// grey where it may not be used. One page to the rota and one to the table answer all, and
+    /// single questions must say the same.
+    fn show_page(&mut self, volunteer: u32, minute: u32) -> Result<(), Refusal> {
+        let rights = 0..self.rota.counts().rights;
+        let mut page: Vec<_> =
+            rights.map(|right| Question::new(volunteer, right, minute)).collect();
+        let mut mirror = page.clone();
+        self.rota.page(&mut page)?;
+        self.table.page(&mut mirror)?;
+        let mut buttons = String::new();
+        for Question { right, answer, .. } in agreed(page, mirror) {
+            let told = self.rota.may(volunteer, right, minute);
+            let told = agreed(told, self.table.may(volunteer, right, minute));
+            assert_eq!(answer.role(), told, "page and question");
+            buttons += &if told?.is_some() { format!(" [{right}]") } else { format!(" {right}") };
+        }
+        say!(self.text, "{} page of volunteer {volunteer}:{buttons}", date(minute)?);
+        Ok(())
+    }
+
     /// When each volunteer can next use each right, from a minute on, as a journey is planned: next
     /// Sunday's discard, or never again.
     fn show_next(&mut self, minute: u32) -> Result<(), Refusal> {
@@ -197,6 +218,8 @@ impl Host<'_> {
         self.show_refusal("the table without its last byte", Table::read(short));
         self.show_refusal("the next use by volunteer 256", self.table.next_use(256, 0, 0));
         self.show_refusal("the board of minute 210379680", self.table.board(210_379_680));
+        let mut long_page = [Question::default(); 257];
+        self.show_refusal("a page of 257 questions", self.table.page(&mut long_page));
         let told = self.call(|service, lent| service.open(lent, 256));
         self.show_refusal("an open of volunteer 256", told);
         let told = self.call(|service, lent| service.advance(lent, 0));
@@ -245,6 +268,9 @@ fn week(file: &[u8]) -> Result<String, Refusal> {
     }
     host.show_users(monday + 2 * DAY + 11 * HOUR)?;
     host.show_board(monday + 2 * DAY + 11 * HOUR)?;
+    for volunteer in 0..counts.volunteers {
+        host.show_page(volunteer, monday + 2 * DAY + 11 * HOUR)?;
+    }
     host.show_next(monday + 7 * DAY)?;
     host.show_refusals();
     let Host { service, advances, closed, opens, closes, yes, no, refused, mut text, .. } = host;

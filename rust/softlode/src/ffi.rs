@@ -130,8 +130,7 @@ fn choose<'a, F>(lent: Lent<'a>, for_rota: F, for_table: F) -> (F, &'a [u8]) {
 }
 
 pub fn question(lent: Lent, volunteer: u32, right: u32, minute: u32) -> Told<Answer> {
-    let (function, bytes) =
-        choose::<Single>(lent, softlode_rota_question, softlode_table_question);
+    let (function, bytes) = choose::<Single>(lent, softlode_rota_question, softlode_table_question);
     // SAFETY: the bytes are lent for the time of the call.
     unsafe { function(bytes.as_ptr(), bytes.len(), volunteer, right, minute) }
 }

@@ -9,7 +9,7 @@ use std::thread;
 use cases::generate::{self, LIMITS, Sets};
 use cases::random::Random;
 use cases::worst;
-use softlode::{Lent, Rota, Service, Table, date, minute};
+use softlode::{Lent, Question, Rota, Service, Table, date, minute};
 
 /// How far the stack is painted for a rewriting, and for every other call.
 const FAR: usize = 5 << 18;
@@ -143,7 +143,8 @@ fn of_a_rewriting() {
 fn of_every_other_call() {
     on_thread(|| {
         let mut area = vec![0; 1_000_000];
-        let (mut all, mut boards) = (Vec::new(), Vec::new());
+        let (mut all, mut boards, mut pages) = (Vec::new(), Vec::new(), Vec::new());
+        let mut page = [Question::default(); 256];
         for rota in rotas() {
             let rewritten = Rota::read(&rota).and_then(|rota| rota.rewrite(&mut area));
             let table = rewritten.map_or(&[][..], |written| written.bytes);
@@ -157,6 +158,8 @@ fn of_every_other_call() {
             }
             for lent in [Lent::Rota(&rota), Lent::Table(table)] {
                 for at in [0, 12_008_160, 105_189_840] {
+                    page.fill(Question::new(0, 0, at));
+                    pages.push(stack_of(NEAR, || lent.page(&mut page)));
                     let mut service = Service::fresh();
                     all.push(stack_of(NEAR, || lent.may(0, 0, at)));
                     all.push(stack_of(NEAR, || service.advance(lent, at)));
@@ -173,6 +176,7 @@ fn of_every_other_call() {
             all.push(stack_of(NEAR, || minute(2001 + 8 * day, 2, 28 + day % 3, 23, 59)));
         }
         assert!(most("a board", &boards) < 4_096);
+        assert!(most("a page", &pages) < 4_096);
         assert!(most("every other call", &all) < 2_048);
     });
 }

@@ -3,7 +3,7 @@
 use std::collections::HashSet;
 use std::thread;
 
-use softlode::{LAST_MINUTE, Lent, Refusal, Rota, Service, Table, date, minute};
+use softlode::{LAST_MINUTE, Lent, Question, Refusal, Rota, Service, Table, date, minute};
 
 const SMALL: &[u8] = include_bytes!("../../../data/small.rota");
 const SMALL_TABLE: &[u8] = include_bytes!("../../../data/small.table");
@@ -18,7 +18,7 @@ const TOO_HIGH: [u32; 7] = [64, 255, 256, 512, 65_536, 1 << 31, u32::MAX];
 fn every_refusal_has_a_text_of_its_own() {
     let numbers: Vec<u32> = Refusal::ALL.iter().map(|refusal| refusal.number()).collect();
     let expected: Vec<u32> =
-        (1..=12).chain(20..=28).chain(33..=35).chain(40..=44).chain([50]).collect();
+        (1..=12).chain(20..=28).chain(33..=35).chain(40..=44).chain([50, 51]).collect();
     assert_eq!(numbers, expected);
     let texts: HashSet<&str> = Refusal::ALL.iter().map(|refusal| refusal.meaning()).collect();
     assert_eq!(texts.len(), numbers.len());
@@ -41,6 +41,7 @@ fn no_bytes() {
     {
         let mut service = Service { now: 3, open: 1 };
         assert_eq!(lent.may(0, 0, 0), Err(refusal));
+        assert_eq!(lent.page(&mut []), Err(refusal));
         assert_eq!(service.advance(lent, 4), Err(refusal));
         assert_eq!(service.open(lent, 1), Err(refusal));
         assert_eq!(service.close(lent, 0), Err(refusal));
@@ -132,6 +133,49 @@ fn boards_of_a_week() {
         most = most.max(board.rows);
     }
     assert!(most > 1 && most <= table.counts().roles, "{most} rows at once");
+}
+
+#[test]
+fn the_page_of_the_small_rota() {
+    for lent in [Lent::Rota(SMALL), Lent::Table(SMALL_TABLE)] {
+        let numbers = [(0, 0, 3), (0, 0, 4), (1, 0, 12), (2, 0, 12), (0, 1, 12), (9, 9, u32::MAX)];
+        let mut page =
+            numbers.map(|(volunteer, right, minute)| Question::new(volunteer, right, minute));
+        let fresh = page;
+        assert_eq!(lent.page(&mut page), Ok(()));
+        for (question, (volunteer, right, minute)) in page.into_iter().zip(numbers) {
+            assert_eq!(question.answer.role(), lent.may(volunteer, right, minute));
+            let kept = (question.volunteer, question.right, question.minute);
+            assert_eq!(kept, (volunteer, right, minute));
+        }
+        let answered = page;
+        // An answer is written anew, whatever the place had.
+        assert_eq!((lent.page(&mut page), page), (Ok(()), answered));
+        assert_eq!(lent.page(&mut []), Ok(()));
+        let mut long = [fresh[0]; 257];
+        assert_eq!((lent.page(&mut long), long), (Err(Refusal::PAGE_TOO_LONG), [fresh[0]; 257]));
+        assert_eq!((lent.page(&mut long[..256]), long[256]), (Ok(()), fresh[0]));
+        assert_eq!(long[..256], [answered[0]; 256]);
+    }
+}
+
+#[test]
+fn a_refused_page_leaves_every_place() {
+    let mut bad = SMALL.to_vec();
+    bad[0] = 9;
+    for (lent, refusal) in
+        [(Lent::Rota(&bad), Refusal::ROTA_FORMAT), (Lent::Table(&bad), Refusal::TABLE_FORMAT)]
+    {
+        for count in [0, 1, 256, 257] {
+            // A page with answers of its own.
+            let mut page = vec![Question::new(0, 0, 3); 256];
+            Lent::Rota(SMALL).page(&mut page).unwrap();
+            page.resize(count, Question::new(1, 1, 1));
+            let before = page.clone();
+            let expected = if count > 256 { Refusal::PAGE_TOO_LONG } else { refusal };
+            assert_eq!((lent.page(&mut page), page), (Err(expected), before));
+        }
+    }
 }
 
 /// On the small rota volunteer 0 holds no right at minutes 4, 5, 8, 9, 14, 15 and from 18 on.
@@ -255,6 +299,10 @@ fn stack_of_every_other_call() {
         for lent in [Lent::Rota(WEEK), Lent::Table(WEEK_TABLE)] {
             let mut service = Service::fresh();
             told.push(lent.may(0, 9, monday).map(|role| role.unwrap_or(99)));
+            let mut page = [Question::new(0, 9, monday)];
+            told.push(
+                lent.page(&mut page).and_then(|()| page[0].answer.role()).map(Option::unwrap),
+            );
             told.push(service.advance(lent, monday));
             told.push(service.open(lent, 0).map(|()| 0));
             told.push(service.ask(lent, 0, 9).map(|role| role.unwrap_or(99)));
@@ -262,7 +310,7 @@ fn stack_of_every_other_call() {
         }
         told
     });
-    let calls = [5, 0, 0, 5, 0].map(Ok);
+    let calls = [5, 5, 0, 0, 5, 0].map(Ok);
     assert_eq!(told[..4], [Ok(20), Ok(239), Ok(0), Ok(5)]);
-    assert_eq!((&told[4..9], &told[9..]), (&calls[..], &calls[..]));
+    assert_eq!((&told[4..10], &told[10..]), (&calls[..], &calls[..]));
 }

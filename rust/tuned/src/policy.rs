@@ -1,5 +1,6 @@
-//! One question, and who holds anything, of a rota or a table that was read.
+//! One question, a page of them, and who holds anything, of a rota or a table that was read.
 
+use reference::page::{LIMIT, Question};
 use reference::policy::Policy;
 use reference::{END, Refusal};
 
@@ -15,6 +16,19 @@ pub fn question(
     ensure(user < policy.users(), 34)?;
     ensure(permission < policy.permissions(), 35)?;
     Ok(policy.answer(user, permission, t))
+}
+
+/// Answers each question in its place. The bytes are read once, after the list is judged.
+pub fn page<P: Policy>(
+    read: impl FnOnce() -> Result<P, Refusal>,
+    questions: &mut [Question],
+) -> Result<(), Refusal> {
+    ensure(questions.len() <= LIMIT, 51)?;
+    let policy = read()?;
+    for asked in questions {
+        asked.answer = question(&policy, asked.user, asked.permission, asked.minute).into();
+    }
+    Ok(())
 }
 
 pub fn holders(policy: &impl Policy, t: u32) -> Result<u64, Refusal> {

@@ -6,6 +6,7 @@ use cases::generate::{self, Sets};
 use cases::random::Random;
 use cases::{data, joining, worst, worst::jumps};
 use reference::edges::Edges;
+use reference::page::{self, Question};
 use reference::policy::{Policy, question};
 use reference::rota::Rota;
 use reference::service::{Lent, State, serve};
@@ -24,16 +25,21 @@ fn compare(
     tally.add(expected.as_ref().err().copied().unwrap_or(0));
     let (quick, expected) = match (quick, expected) {
         (Ok(quick), Ok(expected)) => (quick, expected),
-        (quick, expected) => return case.same(quick.err(), expected.err(), bytes, "read"),
+        (quick, expected) => {
+            case.same(quick.as_ref().err(), expected.as_ref().err(), bytes, "read");
+            return compare_page(case, tally, bytes, quick, expected, &[Question::default(); 2]);
+        }
     };
     let (users, permissions) = (expected.users(), expected.permissions());
     case.same((quick.users(), quick.permissions()), (users, permissions), bytes, "read");
+    let mut page = Vec::new();
     for _ in 0..6 {
         let (user, permission, t) = (
             generate::number(&mut case.random, users),
             generate::number(&mut case.random, permissions),
             minute(&mut case.random),
         );
+        page.push(Question { user, permission, minute: t, ..Question::default() });
         let answer = question(expected, user, permission, t);
         tally.add(answer.err().unwrap_or(0));
         let quickly = tuned::policy::question(&quick, user, permission, t);
@@ -41,6 +47,24 @@ fn compare(
         let holders = if t < END { Ok(expected.holders(t)) } else { Err(33) };
         case.same(tuned::policy::holders(&quick, t), holders, bytes, t);
     }
+    compare_page(case, tally, bytes, Ok(quick), Ok(expected), &page);
+}
+
+/// A page of these questions, once in twenty times again and again until it is too long.
+fn compare_page(
+    case: &mut Case,
+    tally: &mut Tally,
+    bytes: &[u8],
+    quick: Result<impl Policy, Refusal>,
+    expected: Result<&dyn Policy, Refusal>,
+    questions: &[Question],
+) {
+    let times = if case.random.one_in(20) { 1 + page::LIMIT / questions.len() } else { 1 };
+    let mut list = questions.repeat(times);
+    let expected = page::page(expected, &list);
+    tally.add(expected.as_ref().err().copied().unwrap_or(0));
+    let given = tuned::policy::page(|| quick, &mut list).map(|()| list);
+    case.same(given, expected, bytes, "page");
 }
 
 fn compare_rota(case: &mut Case, tally: &mut Tally, bytes: &[u8], near: &Rota) {

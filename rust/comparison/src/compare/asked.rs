@@ -5,6 +5,7 @@ use std::fmt::Debug;
 use cases::case::{Case, Tally};
 use cases::generate;
 use cases::random::Random;
+use reference::page::Question;
 use reference::policy::Policy;
 use reference::{END, Refusal};
 
@@ -36,6 +37,8 @@ pub trait Kind: Policy + Sized {
     fn read(bytes: &[u8]) -> Self::Read;
 
     fn question(bytes: &[u8], user: u32, permission: u32, t: u32) -> Answered;
+
+    fn page(bytes: &[u8], questions: &mut [Question]) -> u32;
 
     fn holders_of(bytes: &[u8], t: u32) -> Holders;
 }

@@ -4,6 +4,7 @@ use cases::case::{Case, Tally};
 use cases::random::Random;
 use cases::{data, generate};
 use reference::Refusal;
+use reference::page::Question;
 use reference::rota::Rota;
 
 use super::asked::{Kind, Lent, compare_all, compare_question};
@@ -47,6 +48,10 @@ impl Kind for Rota {
 
     fn question(bytes: &[u8], user: u32, permission: u32, t: u32) -> Answered {
         ffi::rota::question(bytes, user, permission, t)
+    }
+
+    fn page(bytes: &[u8], questions: &mut [Question]) -> u32 {
+        ffi::rota::page(bytes, questions)
     }
 
     fn holders_of(bytes: &[u8], t: u32) -> Holders {

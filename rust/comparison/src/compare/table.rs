@@ -3,6 +3,7 @@
 use cases::case::{Case, Tally};
 use cases::random::Random;
 use cases::{data, generate};
+use reference::page::Question;
 use reference::table::Table;
 use reference::{END, Refusal, set};
 
@@ -49,6 +50,10 @@ impl Kind for Table {
 
     fn question(bytes: &[u8], user: u32, permission: u32, t: u32) -> Answered {
         ffi::table::question(bytes, user, permission, t)
+    }
+
+    fn page(bytes: &[u8], questions: &mut [Question]) -> u32 {
+        ffi::table::page(bytes, questions)
     }
 
     fn holders_of(bytes: &[u8], t: u32) -> Holders {
@@ -123,7 +128,7 @@ pub fn by_hand(case: &mut Case, tally: &mut Tally) {
 }
 
 /// A table by hand, small or of any size, or one of a rota.
-fn any_table(random: &mut Random) -> Table {
+pub fn any_table(random: &mut Random) -> Table {
     match random.below(8) {
         0 => generate::table(random),
         1 | 2 => {

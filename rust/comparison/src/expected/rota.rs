@@ -1,5 +1,6 @@
 //! Reading a rota and asking it.
 
+use reference::page::{self, Question};
 use reference::policy::{Policy, question as ask};
 use reference::rota::Rota;
 use reference::{END, Refusal};
@@ -37,6 +38,18 @@ pub fn question<P: Policy>(
         Ok(Some(role)) => Answered { refusal: 0, yes: 1, role: role.into() },
         Ok(None) => Answered { refusal: 0, yes: 0, role: 0 },
         Err(refusal) => Answered { refusal, yes: 0, role: 0 },
+    }
+}
+
+/// What the page gives, and the questions after it: as they were where it is refused.
+pub fn page<P: Policy>(
+    policy: &Result<P, Refusal>,
+    questions: &[Question],
+) -> (u32, Vec<Question>) {
+    let policy = policy.as_ref().map(|policy| policy as &dyn Policy).map_err(|&refusal| refusal);
+    match page::page(policy, questions) {
+        Ok(answered) => (0, answered),
+        Err(refusal) => (refusal, questions.to_vec()),
     }
 }
 

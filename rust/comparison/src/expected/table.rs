@@ -5,7 +5,7 @@ use reference::table::Table;
 
 use crate::ffi::table::{Board, NextUse, TableRead};
 
-pub use super::rota::{holders, question};
+pub use super::rota::{holders, page, question};
 
 pub fn read(table: &Result<Table, Refusal>) -> TableRead {
     match table {

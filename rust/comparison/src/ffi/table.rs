@@ -1,5 +1,7 @@
 //! Reading a table and asking it.
 
+use reference::page::Question;
+
 use super::rota::{Answered, Holders};
 
 #[repr(C)]
@@ -33,6 +35,7 @@ pub struct Board {
 unsafe extern "C" {
     fn softlode_table_read(s: *const u8, len: usize) -> TableRead;
     fn softlode_table_question(s: *const u8, len: usize, u: u32, p: u32, t: u32) -> Answered;
+    fn softlode_table_page(q: *mut Question, count: usize, s: *const u8, len: usize) -> u32;
     fn softlode_table_next(s: *const u8, len: usize, u: u32, p: u32, m: u32) -> NextUse;
     fn softlode_table_board(s: *const u8, len: usize, t: u32) -> Board;
     fn probe_table_holders(s: *const u8, len: usize, t: u32) -> Holders;
@@ -44,6 +47,11 @@ pub fn read(bytes: &[u8]) -> TableRead {
 
 pub fn question(bytes: &[u8], user: u32, permission: u32, t: u32) -> Answered {
     unsafe { softlode_table_question(bytes.as_ptr(), bytes.len(), user, permission, t) }
+}
+
+pub fn page(bytes: &[u8], questions: &mut [Question]) -> u32 {
+    let (list, count) = (questions.as_mut_ptr(), questions.len());
+    unsafe { softlode_table_page(list, count, bytes.as_ptr(), bytes.len()) }
 }
 
 pub fn next_use(bytes: &[u8], user: u32, permission: u32, m: u32) -> NextUse {
