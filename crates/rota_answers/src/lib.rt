@@ -226,19 +226,25 @@ pub fn holders_in(s: &[u8], l: Layout, t: u32) -> u64
     )
 }
 
+// One question to an accepted rota: 33, 34, 35, or the answer.
+pub fn question_in(s: &[u8], l: Layout, u: u32, p: u32, t: u32) -> Answer
+    requires { ⌜ Located (now s) l ⌝ }
+    ensures { λ r. ⌜ answerGiven r ≡ question (rotaJudged (now (s .entry))) (policyOf (rotaOf (now (s .entry)))) u p t ⌝ }
+{
+    let n = l.counts;
+    let bad = policy::judge_arguments(n.users, n.permissions, u, p, t);
+    if bad != 0 {
+        return Answer::Refused(bad);
+    }
+    answer_in(s, l, u, p, t)
+}
+
 // One question: the rota's refusal, 33, 34, 35, or the answer.
 pub fn question(s: &[u8], u: u32, p: u32, t: u32) -> Answer
     ensures { λ r. ⌜ answerGiven r ≡ question (rotaJudged (now (s .entry))) (policyOf (rotaOf (now (s .entry)))) u p t ⌝ }
 {
     match rota::locate(s) {
         LayoutAnswer::Refused(n) => Answer::Refused(n),
-        LayoutAnswer::Accepted(l) => {
-            let n = l.counts;
-            let bad = policy::judge_arguments(n.users, n.permissions, u, p, t);
-            if bad != 0 {
-                return Answer::Refused(bad);
-            }
-            answer_in(s, l, u, p, t)
-        }
+        LayoutAnswer::Accepted(l) => question_in(s, l, u, p, t),
     }
 }
