@@ -1,5 +1,4 @@
 -- The answer of an accepted table by its roles: of the rows of a role at most one covers the minute, and its entry decides for the role.
---     both-by, both-no       the bits of an entry, as they were read: the second decides, or the first is not set
 --     roles-few              there are so few roles that a role's number fits a byte
 --     role-yes               a role whose row has both bits is the answer, where no lower one answers
 --     role-out, role-off     a role without a row at the minute, and one whose row lacks a bit, do not answer
@@ -16,31 +15,16 @@ use Rattle.ground.specs.Outcome.{given}
 use Rattle.ground.specs.Search.{anyBelow}
 use Rattle.ground.proofs.BoolLaws.{and-yes, and-both, clash, not-yes}
 use Rattle.ground.proofs.SearchLaws.{any-more, any-no, lowest-is, lowest-none}
-use Rattle.endian.specs.Numbers.{u32At, u64At}
-use Rattle.bitset.specs.Sets.{has}
 use Rattle.table.specs.Table.{through, answer}
-use Rattle.table.specs.TableBytes.{rowsOf, entryOf, rowOf, tableOf}
+use Rattle.table.specs.TableBytes.{rowsOf, rowOf, tableOf}
 use Rattle.table.specs.Inside.{Opened}
 use Rattle.table.specs.declared.Counts.{Counts}
 use Rattle.table.proofs.HeaderLaws.{counts-are}
 use Rattle.table.proofs.FineLaws.{table-fine}
+use Rattle.table_answers.specs.Grants.{bothAt}
 use Rattle.table_answers.proofs.AnswerLaws.{rowPlace, grant-parts, grant-of, grant-through, through-grant}
 use Rattle.rows.specs.Rows.{rowFor}
 use Rattle.rows.proofs.StageLaws.{row-found, row-there}
-
--- the entry of the row at a position has user u and permission p
-abbrev pub bothAt : List ℕ → ℕ → ℕ → ℕ → Bool
-bothAt s u p at = has (entryOf s (u32At s at) .users) u && has (entryOf s (u32At s at) .permissions) p
-
--- that entry begins at e and has the users x, and a is whether u is one of them
-module _ (s : List ℕ) (at e x u p : ℕ) (a : Bool) (ee : e ≡ 16 + 17 * u32At s at) (ex : x ≡ u64At s (e + 1)) (ea : a ≡ has x u) where
-  pub both-no : a ≡ false → false ≡ bothAt s u p at
-  unfolding entryOf
-  both-no h = rw (← ee, ← ex, ← ea, h) refl
-
-  pub both-by : a ≡ true → (y : ℕ) (b : Bool) → y ≡ u64At s (e + 9) → b ≡ has y p → b ≡ bothAt s u p at
-  unfolding entryOf
-  both-by h y b ey eb = rw (← ee, ← ex, ← ea, h, ← ey) eb
 
 -- no role below r answers
 abbrev pub NoneBelow : List ℕ → ℕ → ℕ → ℕ → ℕ → Type 0

@@ -1,30 +1,15 @@
 // One question to an accepted table: the row of each role is searched for, where the roles have more than a few rows.
 ghost use mathlib.Core.Path.{_≡_};
-ghost use mathlib.Core.Bool.{_&&_};
 ghost use Prim.Native.Nat.{_%_, _<_};
 ghost use Rattle.ground.specs.Outcome.{given};
-ghost use Rattle.endian.specs.Numbers.{u32At};
-ghost use Rattle.bitset.specs.Sets.{has};
-ghost use Rattle.policy.specs.Policy.{answerGiven};
-ghost use Rattle.table.specs.Table.{answer};
-ghost use Rattle.table.specs.TableBytes.{cycleOf, entryOf, tableOf};
+ghost use Rattle.policy.specs.Policy.{question, answerGiven};
+ghost use Rattle.table.specs.Table.{answer, policyOf};
+ghost use Rattle.table.specs.TableBytes.{cycleOf, tableOf};
+ghost use Rattle.table.specs.TableRefusals.{tableJudged};
 ghost use Rattle.table.specs.Inside.{Opened};
-ghost use Rattle.table_answers.specs.Grants.{RowInside};
 use policy::Answer;
 use table::Counts;
-
-// Whether the entry of the row at `at` has both bits set.
-fn has_both(s: &[u8], at: usize, u: u32, p: u32) -> bool
-    requires { ⌜ RowInside (now s) at × (u < 64) × (p < 64) ⌝ }
-    ensures { λ r. ⌜ r ≡ (has (entryOf (now (s .entry)) (u32At (now (s .entry)) at) .users) u && has (entryOf (now (s .entry)) (u32At (now (s .entry)) at) .permissions) p) ⌝ }
-{
-    let e = table_answers::entry_place(s, at);
-    if bitset::contains(endian::read64(s, e + 1), u) {
-        bitset::contains(endian::read64(s, e + 9), p)
-    } else {
-        false
-    }
-}
+use table::TableAnswer;
 
 // The answer of an accepted table by a search for each role, lowest first: the first role whose row covers the minute and has both bits set. Rows go by
 // role, so that each search begins where the last one ended.
@@ -42,7 +27,7 @@ fn search_roles(s: &[u8], n: Counts, u: u32, p: u32, t: u32, x: u32) -> Answer
         let k = f.row;
         near = f.next;
         if k < all {
-            if has_both(s, first + 16 * k, u, p) {
+            if table_answers::has_both(s, first + 16 * k, u, p) {
                 return Answer::Yes(r as u8);
             }
         }
@@ -60,4 +45,20 @@ pub fn answer_in(s: &[u8], n: Counts, u: u32, p: u32, t: u32) -> Answer
         return table_answers::answer_in(s, n, u, p, t);
     }
     search_roles(s, n, u, p, t, minutes::phase(n.cycle, t))
+}
+
+// One question: the table's refusal, 33, 34, 35, or the answer.
+pub fn question(s: &[u8], u: u32, p: u32, t: u32) -> Answer
+    ensures { λ r. ⌜ answerGiven r ≡ question (tableJudged (now (s .entry))) (policyOf (tableOf (now (s .entry)))) u p t ⌝ }
+{
+    match table_reader::read(s) {
+        TableAnswer::Refused(code) => Answer::Refused(code),
+        TableAnswer::Accepted(n) => {
+            let bad = policy::judge_arguments(n.users, n.permissions, u, p, t);
+            if bad != 0 {
+                return Answer::Refused(bad);
+            }
+            answer_in(s, n, u, p, t)
+        }
+    }
 }
