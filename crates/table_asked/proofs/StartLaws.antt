@@ -1,17 +1,16 @@
 -- Where the rows of a role begin, by halving: rows go by source role.
 --     Between, between-all, between-up, between-down, begins-there     the rows that are left to look at
---     first-none, first-more                                           the roles so far
+--     first-none, first-more, below-next                               the roles so far
 -- Assumes nothing.
 use Prim.Native.Nat.{ℕ, _+_, _*_, _≤_, _<_}
 use mathlib.Core.Path.{_≡_, refl, sym, _∙_, ap, subst}
-use mathlib.Core.Logic.{⊎-elim}
+use mathlib.Core.Logic.{_⊎_, inl, inr}
 use mathlib.Core.List.{List}
-use native.Mathlib.Nat.{le-antisymm}
 use native.Mathlib.Omega.{arith}
 use lib.ListN.{length, getD, set, replicate, length-set}
 use lib.Seq.{getD-set-same, getD-set-other}
 use Rattle.ground.proofs.BoolLaws.{lt-or-le}
-use Rattle.table.specs.TableBytes.{rolesOf, rowsOf}
+use Rattle.table.specs.TableBytes.{rowsOf}
 use Rattle.table.specs.TableRefusals.{sourceOf}
 use Rattle.table.specs.Inside.{Opened}
 use Rattle.table.specs.declared.Counts.{Counts}
@@ -56,3 +55,25 @@ module _ (s : List ℕ) (n : Counts) (o : Opened s n) (r : ℕ) where
 pub begins-there : (s : List ℕ) (r a b : ℕ) → Between s r a b → b ≤ a → BeginsAt s r a
 begins-there s r a b w l =
     record { most = omega (arith, w .ordered, w .most); below = w .below; above = λ i k m. w .above i (omega arith) m }
+
+-- ---- the roles so far
+pub first-none : (s : List ℕ) → FirstOf s 0 (replicate 32 0)
+first-none s = record { long = refl; begins = λ r l. absurd (omega arith) }
+
+module _ (s : List ℕ) (k : ℕ) (starts : List ℕ) (w : FirstOf s k starts) (l : k < 32) (v : ℕ) (b : BeginsAt s k v) where
+  pub first-more : (starts′ : List ℕ) → starts′ ≡ set starts k v → FirstOf s (k + 1) starts′
+  first-more starts′ e =
+      record {
+        long = ap length e ∙ length-set starts k v ∙ w .long;
+        begins = λ r m. subst (BeginsAt s r) (sym (ap (λ (y : List ℕ). getD y r 0) e)) (go r m (lt-or-le r k));
+      }
+    where
+      go : (r : ℕ) → r < k + 1 → (r < k) ⊎ (k ≤ r) → BeginsAt s r (getD (set starts k v) r 0)
+      go r m (inl h) = subst (BeginsAt s r) (sym (getD-set-other starts k r v 0 (λ q. absurd (omega arith)))) (w .begins r h)
+      go r m (inr h) =
+          let q : k ≡ r = omega arith in
+          subst (λ (j : ℕ). BeginsAt s j (getD (set starts k v) j 0)) q (subst (BeginsAt s k) (sym (getD-set-same starts k v 0 (omega (arith, w .long)))) b)
+
+-- rows that are of roles below one are of roles below the next
+pub below-next : (s : List ℕ) (r a : ℕ) → BeginsAt s r a → RowsBelow s (r + 1) a
+below-next s r a b i l = omega (arith, b .below i l)

@@ -1,13 +1,14 @@
 // One question to an accepted table: the row of each role is searched for, where the roles have more than a few rows.
 ghost use mathlib.Core.Path.{_≡_};
-ghost use Prim.Native.Nat.{_%_, _≤_, _<_};
+ghost use Prim.Native.Nat.{_+_, _%_, _≤_, _<_};
+ghost use lib.ListN.{length};
 ghost use Rattle.ground.specs.Outcome.{given};
 ghost use Rattle.policy.specs.Policy.{question, answerGiven};
 ghost use Rattle.table.specs.Table.{answer, policyOf};
-ghost use Rattle.table.specs.TableBytes.{cycleOf, tableOf};
+ghost use Rattle.table.specs.TableBytes.{cycleOf, rowAtByte, tableOf};
 ghost use Rattle.table.specs.TableRefusals.{tableJudged};
 ghost use Rattle.table.specs.Inside.{Opened};
-ghost use Rattle.table_asked.specs.Starts.{RowsBelow, BeginsAt};
+ghost use Rattle.table_asked.specs.Starts.{RowsBelow, BeginsAt, FirstRows, hasBegun};
 use policy::Answer;
 use table::Counts;
 use table::TableAnswer;
@@ -81,4 +82,38 @@ fn first_row(s: &[u8], n: Counts, role: usize, from: usize) -> usize
         }
     }
     a
+}
+
+// For each role, where its rows begin. Rows go by role, so that each search begins where the last one ended.
+pub fn first_rows(s: &[u8], n: Counts) -> [u64; 32]
+    requires { ⌜ Opened (now s) n ⌝ }
+    ensures { λ r. ⌜ FirstRows (now (s .entry)) r ⌝ }
+{
+    let roles = n.roles as usize;
+    let mut starts = [0u64; 32];
+    let mut from = 0;
+    let mut k = 0;
+    while k < roles {
+        from = first_row(s, n, k, from);
+        starts[k] = from as u64;
+        k += 1;
+    }
+    starts
+}
+
+// Whether the row at `at` comes before minute t, whose phase is x, or covers it: its end is not after t, or it has begun and its cell starts at or
+// before the phase.
+fn begun(s: &[u8], at: usize, t: u32, x: u32) -> bool
+    requires { ⌜ at + 16 ≤ length (now s) ⌝ }
+    ensures { λ r. ⌜ r ≡ hasBegun (rowAtByte (now (s .entry)) at .window) t x ⌝ }
+{
+    let w = table::read_window(s, at);
+    if w.end <= t {
+        return true;
+    }
+    if w.begin <= t {
+        w.offset as u32 <= x
+    } else {
+        false
+    }
 }
