@@ -1,4 +1,5 @@
 -- Where the rows of a role begin, by halving: rows go by source role.
+--     begins-most                                                      no later than after the last row
 --     Between, between-all, between-up, between-down, begins-there     the rows that are left to look at
 --     first-none, first-more, below-next                               the roles so far
 -- Assumes nothing.
@@ -18,6 +19,10 @@ use Rattle.table.proofs.HeaderLaws.{counts-are}
 use Rattle.table.proofs.FineLaws.{table-fine}
 use Rattle.table_answers.proofs.SourceLaws.{sources-up}
 use Rattle.table_asked.specs.Starts.{RowsBelow, BeginsAt, FirstOf}
+
+-- the same of the counts that were read
+pub begins-most : (s : List ℕ) (n : Counts) → Opened s n → (r a : ℕ) → BeginsAt s r a → a ≤ n .rows
+begins-most s n o r a b = omega (arith, b .most, counts-are s n (o .counts) .rows)
 
 -- rows a to before b are left to look at: those before are of roles below r, those after are not
 pub record Between (s : List ℕ) (r a b : ℕ) : Type 0 where

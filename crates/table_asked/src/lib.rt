@@ -8,6 +8,7 @@ ghost use Rattle.table.specs.Table.{answer, policyOf};
 ghost use Rattle.table.specs.TableBytes.{cycleOf, rowAtByte, tableOf};
 ghost use Rattle.table.specs.TableRefusals.{tableJudged};
 ghost use Rattle.table.specs.Inside.{Opened};
+ghost use Rattle.rows.specs.Rows.{rowFor};
 ghost use Rattle.table_asked.specs.Starts.{RowsBelow, BeginsAt, FirstRows, hasBegun};
 use policy::Answer;
 use table::Counts;
@@ -116,4 +117,30 @@ fn begun(s: &[u8], at: usize, t: u32, x: u32) -> bool
     } else {
         false
     }
+}
+
+// Of the rows from `first` to before `past`, which are a role's, the one that covers minute t, whose phase is x, or the number of rows. It is the last
+// that has begun, or there is none.
+fn row_among(s: &[u8], n: Counts, role: usize, first: usize, past: usize, t: u32, x: u32) -> usize
+    requires { ⌜ Opened (now s) n × (x ≡ t % cycleOf (now s)) × BeginsAt (now s) role first × BeginsAt (now s) (role + 1) past ⌝ }
+    ensures { λ r. ⌜ r ≡ rowFor (now (s .entry)) role t ⌝ }
+{
+    let rows_at = 16 + 17 * (n.derived as usize);
+    let all = n.rows as usize;
+    let mut a = first;
+    let mut b = past;
+    while a < b {
+        let m = a + (b - a) / 2;
+        if begun(s, rows_at + 16 * m, t, x) {
+            a = m + 1;
+        } else {
+            b = m;
+        }
+    }
+    if a <= first {
+        return all;
+    }
+    let k = a - 1;
+    let covered = table_answers::row_covers(s, rows_at + 16 * k, t, x);
+    if covered { k } else { all }
 }

@@ -6,7 +6,7 @@ use native.Mathlib.Omega.{arith}
 use borrow.Author.Needs.{needs}
 use Rattle.table.proofs.HeaderLaws.{counts-are}
 use Rattle.table_asked.specs.Starts.{RowsBelow, FirstOf}
-use Rattle.table_asked.proofs.StartLaws.{first-none, first-more, below-next}
+use Rattle.table_asked.proofs.StartLaws.{begins-most, first-none, first-more, below-next}
 use Rattle.table_asked.proofs.AskedLaws.{roles-few}
 use Rattle.table_asked.proofs.first_rows.Statement.{statement}
 use Rattle.table_asked.proofs.first_rows.Tie as tie
@@ -44,7 +44,7 @@ loop-again c =
     let b = c .first-row .ensures in (
       omega arith,
       first-more _ _ _ (c .before .before .loop .inv .1) (omega (arith, roles-few _ _ o)) _ b _ refl,
-      omega (arith, b .most, counts-are _ _ (o .counts) .rows),
+      begins-most _ _ o _ _ b,
       below-next _ _ _ b,
     )
 
