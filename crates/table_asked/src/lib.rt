@@ -9,10 +9,22 @@ ghost use Rattle.table.specs.TableBytes.{cycleOf, rowAtByte, tableOf};
 ghost use Rattle.table.specs.TableRefusals.{tableJudged};
 ghost use Rattle.table.specs.Inside.{Opened};
 ghost use Rattle.rows.specs.Rows.{rowFor};
-ghost use Rattle.table_asked.specs.Starts.{RowsBelow, BeginsAt, FirstRows, hasBegun};
+ghost use Rattle.table_asked.specs.Starts.{RowsBelow, BeginsAt, FirstRows, hasBegun, Decides};
 use policy::Answer;
 use table::Counts;
 use table::TableAnswer;
+
+// Whether row k is one and its entry has both bits set, which decides for the role whose row it is.
+fn row_decides(s: &[u8], n: Counts, k: usize, u: u32, p: u32) -> bool
+    requires { ⌜ Opened (now s) n × (u < n .users) × (p < n .permissions) ⌝ }
+    ensures { λ v. ⌜ Decides (now (s .entry)) u p k v ⌝ }
+{
+    if k < n.rows as usize {
+        table_answers::has_both(s, 16 + 17 * (n.derived as usize) + 16 * k, u, p)
+    } else {
+        false
+    }
+}
 
 // The answer of an accepted table by a search for each role, lowest first: the first role whose row covers the minute and has both bits set. Rows go by
 // role, so that each search begins where the last one ended.
@@ -20,8 +32,6 @@ fn search_roles(s: &[u8], n: Counts, u: u32, p: u32, t: u32, x: u32) -> Answer
     requires { ⌜ Opened (now s) n × (u < n .users) × (p < n .permissions) × (x ≡ t % cycleOf (now s)) ⌝ }
     ensures { λ r. ⌜ answerGiven r ≡ given (answer (tableOf (now (s .entry))) u p t) ⌝ }
 {
-    let first = 16 + 17 * (n.derived as usize);
-    let all = n.rows as usize;
     let roles = n.roles;
     let mut near = 0;
     let mut r: u32 = 0;
@@ -29,10 +39,8 @@ fn search_roles(s: &[u8], n: Counts, u: u32, p: u32, t: u32, x: u32) -> Answer
         let f = rows::row_at(s, n, r as usize, near, t, x);
         let k = f.row;
         near = f.next;
-        if k < all {
-            if table_answers::has_both(s, first + 16 * k, u, p) {
-                return Answer::Yes(r as u8);
-            }
+        if row_decides(s, n, k, u, p) {
+            return Answer::Yes(r as u8);
         }
         r += 1;
     }
