@@ -2,6 +2,7 @@
 --     begins-most                                                      no later than after the last row
 --     Between, between-all, between-up, between-down, begins-there     the rows that are left to look at
 --     first-none, first-more, below-next                               the roles so far
+--     begins-end                                                       after the last role
 -- Assumes nothing.
 use Prim.Native.Nat.{ℕ, _+_, _*_, _≤_, _<_}
 use mathlib.Core.Path.{_≡_, refl, sym, _∙_, ap, subst}
@@ -82,3 +83,15 @@ module _ (s : List ℕ) (k : ℕ) (starts : List ℕ) (w : FirstOf s k starts) (
 -- rows that are of roles below one are of roles below the next
 pub below-next : (s : List ℕ) (r a : ℕ) → BeginsAt s r a → RowsBelow s (r + 1) a
 below-next s r a b i l = omega (arith, b .below i l)
+
+-- ---- the rows of a role
+-- every source is below the number of roles
+pub begins-end : (s : List ℕ) (n : Counts) → Opened s n → (r : ℕ) → n .roles ≤ r → BeginsAt s r (n .rows)
+begins-end s n o r l =
+    let e = counts-are s n (o .counts) in
+    let f = table-fine s (o .clear) in
+    record {
+      most = omega (arith, e .rows);
+      below = λ i k. omega (arith, e .roles, f .entries _ (f .rows i (omega (arith, e .rows)) .alone .derived) .source);
+      above = λ i k m. absurd (omega (arith, e .rows));
+    }

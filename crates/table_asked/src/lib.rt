@@ -152,3 +152,47 @@ fn row_among(s: &[u8], n: Counts, role: usize, first: usize, past: usize, t: u32
     let covered = table_answers::row_covers(s, rows_at + 16 * k, t, x);
     if covered { k } else { all }
 }
+
+// The row of a role that covers minute t, whose phase is x, or the number of rows, where each role's rows begin at `starts`. Those of the last role go
+// to the end.
+fn row_by(s: &[u8], n: Counts, starts: &[u64; 32], role: usize, t: u32, x: u32) -> usize
+    requires { ⌜ Opened (now s) n × FirstRows (now s) (now starts) × (x ≡ t % cycleOf (now s)) × (role < n .roles) ⌝ }
+    ensures { λ r. ⌜ r ≡ rowFor (now (s .entry)) role t ⌝ }
+{
+    let first = starts[role] as usize;
+    let next = role + 1;
+    let mut past = n.rows as usize;
+    if next < n.roles as usize {
+        past = starts[next] as usize;
+    }
+    row_among(s, n, role, first, past, t, x)
+}
+
+// The answer of an accepted table by its roles, lowest first, where each role's rows begin at `starts`.
+fn search_starts(s: &[u8], n: Counts, starts: &[u64; 32], u: u32, p: u32, t: u32, x: u32) -> Answer
+    requires { ⌜ Opened (now s) n × (u < n .users) × (p < n .permissions) × FirstRows (now s) (now starts) × (x ≡ t % cycleOf (now s)) ⌝ }
+    ensures { λ r. ⌜ answerGiven r ≡ given (answer (tableOf (now (s .entry))) u p t) ⌝ }
+{
+    let roles = n.roles as usize;
+    let mut role = 0;
+    while role < roles {
+        let k = row_by(s, n, starts, role, t, x);
+        if row_decides(s, n, k, u, p) {
+            return Answer::Yes(role as u8);
+        }
+        role += 1;
+    }
+    Answer::No
+}
+
+// The answer of an accepted table, where each role's rows begin at `starts`: quicker than a search without them, and worth finding them for some
+// questions to one table.
+pub fn answer_by(s: &[u8], n: Counts, starts: &[u64; 32], u: u32, p: u32, t: u32) -> Answer
+    requires { ⌜ Opened (now s) n × (u < n .users) × (p < n .permissions) × FirstRows (now s) (now starts) ⌝ }
+    ensures { λ r. ⌜ answerGiven r ≡ given (answer (tableOf (now (s .entry))) u p t) ⌝ }
+{
+    if n.rows / 16 < n.roles {
+        return table_answers::answer_in(s, n, u, p, t);
+    }
+    search_starts(s, n, starts, u, p, t, minutes::phase(n.cycle, t))
+}
