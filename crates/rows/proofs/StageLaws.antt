@@ -1,6 +1,7 @@
 -- The rows of an accepted table beside one whose stage is known: at most one row of a role covers a minute.
 --     stage-lower, stage-higher, stage-early, stage-over, stage-off, stage-past, stage-on     a row's stage, by the tests of the code
 --     source-read, window-read                                                                 a row, as it was read
+--     Begun, none-begun, none-ahead                                                            the rows before one that has begun, and from one ahead on
 --     Narrowed, narrow-none, narrow-up, narrow-down                                            the rows that are left to look at
 --     row-found, row-none, row-there                                                           the row, or that there is none
 -- Assumes nothing.
@@ -29,22 +30,32 @@ use Rattle.table_reader.proofs.TableTheorems.{in-order, one-row}
 use Rattle.row_times.specs.RowFirst.{roleAtByte}
 use Rattle.rows.specs.Rows.{coversFor, rowFor, Behind, Ahead, StageIs}
 
+-- a window of a role below r, or of role r and begun at minute t, whose phase is x: it has ended, or its dates and its cell have started
+abbrev pub Begun : ℕ → Window → ℕ → ℕ → ℕ → Type 0
+Begun q w r t x = (q < r) ⊎ ((q ≡ r) × ((w .end ≤ t) ⊎ ((w .begin ≤ t) × (w .offset ≤ x))))
+
+behind-begun : (q : ℕ) (w : Window) (r t x : ℕ) → Behind q w r t x → Begun q w r t x
+behind-begun q w r t x (inl h) = inl h
+behind-begun q w r t x (inr (h, l, inl z)) = inr (h, inl z)
+behind-begun q w r t x (inr (h, l, inr z)) = inr (h, inr (l, omega arith))
+
 -- ---- two windows, one after the other
 module _ (c t r : ℕ) (p : ℕ) (v : Window) (q : ℕ) (w : Window) (after : After p v q w) where
-  not-before : p ≡ r → In c v t → Behind q w r t (t % c) → ⊥
-  not-before e f (inl h) = go after
+  not-before : w .begin < w .end → p ≡ r → In c v t → Begun q w r t (t % c) → ⊥
+  not-before o e f (inl h) = go after
     where
       go : After p v q w → ⊥
       go (inl k) = omega arith
       go (inr (inl k)) = omega arith
       go (inr (inr k)) = omega arith
-  not-before e f (inr (h, l, m)) = go after m
+  not-before o e f (inr (h, m)) = go after m
     where
-      go : After p v q w → (w .end ≤ t) ⊎ (w .offset + w .length ≤ t % c) → ⊥
+      go : After p v q w → (w .end ≤ t) ⊎ ((w .begin ≤ t) × (w .offset ≤ t % c)) → ⊥
       go (inl k) z = omega arith
       go (inr (inl k)) (inl z) = omega (arith, f .to)
       go (inr (inl k)) (inr z) = omega (arith, f .right)
-      go (inr (inr k)) z = omega (arith, f .to)
+      go (inr (inr k)) (inl z) = omega (arith, f .to)
+      go (inr (inr k)) (inr z) = omega (arith, f .to)
 
   not-after : v .begin < v .end → q ≡ r → In c w t → Ahead p v r t (t % c) → ⊥
   not-after o e f (inl h) = go after
@@ -81,17 +92,25 @@ module _ (s : List ℕ) (a : tableJudged s ≡ 0) (r t : ℕ) where
   parts : (i : ℕ) → coversFor s r t i ≡ true → (sourceOf s i ≡ r) × In (cycleOf s) (W i) t
   parts i h = let z = and-yes (eqb (sourceOf s i) r) (covers (cycleOf s) (W i) t) h in (eqb-true (sourceOf s i) r (z .0), covers-in (z .1))
 
-  none-behind : (m : ℕ) → m < rowsOf s → Behind (sourceOf s m) (W m) r t (t % cycleOf s) → (i : ℕ) → i ≤ m → coversFor s r t i ≡ false
-  none-behind m l b i k =
+  pub none-begun : (m : ℕ) → m < rowsOf s → Begun (sourceOf s m) (W m) r t (t % cycleOf s) → (i : ℕ) → i < m → coversFor s r t i ≡ false
+  none-begun m l b i d =
       not-yes _
       (λ h.
       let z = parts i h in
-      ⊎-elim
-      (λ (e : i ≡ m). itself-not-behind (cycleOf s) t r (sourceOf s i) (W i) (z .0) (z .1) (subst (λ (j : ℕ). Behind (sourceOf s j) (W j) r t (t % cycleOf s)) (sym e) b))
-      (λ (d : i < m). not-before (cycleOf s) t r (sourceOf s i) (W i) (sourceOf s m) (W m) (in-order s a i m d l) (z .0) (z .1) b)
-      (eq-or-lt-of-le k))
+      not-before (cycleOf s) t r (sourceOf s i) (W i) (sourceOf s m) (W m) (in-order s a i m d l) (table-fine s a .rows m l .alone .ordered) (z .0) (z .1) b)
 
-  none-ahead : (m : ℕ) → Ahead (sourceOf s m) (W m) r t (t % cycleOf s) → (i : ℕ) → m ≤ i → i < rowsOf s → coversFor s r t i ≡ false
+  none-behind : (m : ℕ) → m < rowsOf s → Behind (sourceOf s m) (W m) r t (t % cycleOf s) → (i : ℕ) → i ≤ m → coversFor s r t i ≡ false
+  none-behind m l b i k =
+      ⊎-elim
+      (λ (e : i ≡ m).
+      not-yes _
+      (λ h.
+      let z = parts i h in
+      itself-not-behind (cycleOf s) t r (sourceOf s i) (W i) (z .0) (z .1) (subst (λ (j : ℕ). Behind (sourceOf s j) (W j) r t (t % cycleOf s)) (sym e) b)))
+      (λ (d : i < m). none-begun m l (behind-begun _ _ _ _ _ b) i d)
+      (eq-or-lt-of-le k)
+
+  pub none-ahead : (m : ℕ) → Ahead (sourceOf s m) (W m) r t (t % cycleOf s) → (i : ℕ) → m ≤ i → i < rowsOf s → coversFor s r t i ≡ false
   none-ahead m b i k l =
       not-yes _
       (λ h.

@@ -1,5 +1,7 @@
 -- One row at a minute: whether its window covers the minute, whether its entry grants, and which users it has.
 --     grants-parts, grants-of     a row that grants covers the minute, and its entry has both bits; and back
+--     both-by, both-no            the bits of an entry, as they were read: the second decides, or the first is not set
+--     grants-both, grants-out     a row that covers the minute grants by its entry's bits, and one that does not grants nothing
 -- Assumes nothing.
 use Prim.Native.Nat.{ℕ, _+_, _*_, _%_}
 use mathlib.Core.Path.{_≡_, refl, sym, _∙_, ap}
@@ -10,7 +12,7 @@ use Rattle.endian.specs.Numbers.{u32At, u64At}
 use Rattle.bitset.specs.Sets.{has}
 use Rattle.minutes.specs.Minutes.{Window, within, inPhase, covers}
 use Rattle.table.specs.TableBytes.{cycleOf, rowAtByte, entryOf}
-use Rattle.table_answers.specs.Grants.{rowGrants, rowUsers}
+use Rattle.table_answers.specs.Grants.{bothAt, rowGrants, rowUsers}
 
 -- what it takes that the row at a position grants
 module _ (s : List ℕ) (u p t at : ℕ) where
@@ -23,6 +25,16 @@ module _ (s : List ℕ) (u p t at : ℕ) where
       → has (entryOf s (u32At s at) .permissions) p ≡ true → rowGrants s u p t at ≡ true
   unfolding rowGrants
   grants-of a b c = and-all _ _ _ a b c
+
+-- the entry of the row at a position begins at e and has the users x, and a is whether u is one of them
+module _ (s : List ℕ) (at e x u p : ℕ) (a : Bool) (ee : e ≡ 16 + 17 * u32At s at) (ex : x ≡ u64At s (e + 1)) (ea : a ≡ has x u) where
+  pub both-no : a ≡ false → false ≡ bothAt s u p at
+  unfolding entryOf
+  both-no h = rw (← ee, ← ex, ← ea, h) refl
+
+  pub both-by : a ≡ true → (y : ℕ) (b : Bool) → y ≡ u64At s (e + 9) → b ≡ has y p → b ≡ bothAt s u p at
+  unfolding entryOf
+  both-by h y b ey eb = rw (← ee, ← ex, ← ea, h, ← ey) eb
 
 -- the row at a position has window w, and d is whether minute t, of phase x, lies between its dates
 module _ (s : List ℕ) (at t x : ℕ) (w : Window) (d : Bool) (ew : w ≡ rowAtByte s at .window) (ex : x ≡ t % cycleOf s)
@@ -47,18 +59,12 @@ module _ (s : List ℕ) (at t : ℕ) (v : Bool) (ev : v ≡ covers (cycleOf s) (
   unfolding rowGrants
   grants-out u p h = rw (← ev, h) refl
 
+  pub grants-both : v ≡ true → (u p : ℕ) (b : Bool) → b ≡ bothAt s u p at → b ≡ rowGrants s u p t at
+  unfolding rowGrants
+  grants-both h u p b eb = rw (← ev, h) eb
+
   -- it does: its entry begins at e and has the users x
   module _ (h : v ≡ true) (e x : ℕ) (ee : e ≡ 16 + 17 * u32At s at) (ex : x ≡ u64At s (e + 1)) where
     pub users-in : x ≡ rowUsers s t at
     unfolding rowUsers entryOf
     users-in = rw (← ev, h, ← ee) ex
-
-    -- a is whether it has user u
-    module _ (u p : ℕ) (a : Bool) (ea : a ≡ has x u) where
-      pub grants-no : a ≡ false → false ≡ rowGrants s u p t at
-      unfolding rowGrants entryOf
-      grants-no g = rw (← ev, h, ← ee, ← ex, ← ea, g) refl
-
-      pub grants-by : a ≡ true → (y : ℕ) (b : Bool) → y ≡ u64At s (e + 9) → b ≡ has y p → b ≡ rowGrants s u p t at
-      unfolding rowGrants entryOf
-      grants-by g y b ey eb = rw (← ev, h, ← ee, ← ex, ← ea, g, ← ey) eb

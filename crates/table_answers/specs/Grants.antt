@@ -14,6 +14,10 @@ pub record RowInside (s : List ℕ) (at : ℕ) : Type 0 where
   pub row : at + 16 ≤ length s
   pub entry : 16 + 17 * u32At s at + 17 ≤ length s
 
+-- the entry of the row at a position has user u and permission p
+abbrev pub bothAt : List ℕ → ℕ → ℕ → ℕ → Bool
+bothAt s u p at = has (entryOf s (u32At s at) .users) u && has (entryOf s (u32At s at) .permissions) p
+
 -- the row at a position covers t, and its entry has user u and permission p
 unfoldable pub rowGrants : List ℕ → ℕ → ℕ → ℕ → ℕ → Bool
 rowGrants s u p t at =

@@ -5,15 +5,13 @@ ghost use lib.ListN.{length};
 ghost use Rattle.ground.specs.Outcome.{given};
 ghost use Rattle.endian.specs.Numbers.{u32At};
 ghost use Rattle.minutes.specs.Minutes.{covers};
-ghost use Rattle.policy.specs.Policy.{question, answerGiven, holdersAt};
+ghost use Rattle.policy.specs.Policy.{answerGiven, holdersAt};
 ghost use Rattle.table.specs.Table.{answer, policyOf};
 ghost use Rattle.table.specs.TableBytes.{cycleOf, rowAtByte, tableOf};
-ghost use Rattle.table.specs.TableRefusals.{tableJudged};
 ghost use Rattle.table.specs.Inside.{Opened};
-ghost use Rattle.table_answers.specs.Grants.{RowInside, rowGrants, rowUsers};
+ghost use Rattle.table_answers.specs.Grants.{RowInside, bothAt, rowGrants, rowUsers};
 use policy::Answer;
 use table::Counts;
-use table::TableAnswer;
 
 // Whether the row at `at` covers minute t, whose phase is x.
 pub fn row_covers(s: &[u8], at: usize, t: u32, x: u32) -> bool
@@ -36,18 +34,26 @@ pub fn entry_place(s: &[u8], at: usize) -> usize
     16 + 17 * (endian::read32(s, at) as usize)
 }
 
+// Whether the entry of the row at `at` has both bits set.
+pub fn has_both(s: &[u8], at: usize, u: u32, p: u32) -> bool
+    requires { ⌜ RowInside (now s) at × (u < 64) × (p < 64) ⌝ }
+    ensures { λ r. ⌜ r ≡ bothAt (now (s .entry)) u p at ⌝ }
+{
+    let e = entry_place(s, at);
+    if bitset::contains(endian::read64(s, e + 1), u) {
+        bitset::contains(endian::read64(s, e + 9), p)
+    } else {
+        false
+    }
+}
+
 // Whether the row at `at` covers minute t, whose phase is x, and its entry has both bits set.
 fn row_grants(s: &[u8], at: usize, u: u32, p: u32, t: u32, x: u32) -> bool
     requires { ⌜ RowInside (now s) at × (x ≡ t % cycleOf (now s)) × (u < 64) × (p < 64) ⌝ }
     ensures { λ r. ⌜ r ≡ rowGrants (now (s .entry)) u p t at ⌝ }
 {
     if row_covers(s, at, t, x) {
-        let e = entry_place(s, at);
-        if bitset::contains(endian::read64(s, e + 1), u) {
-            bitset::contains(endian::read64(s, e + 9), p)
-        } else {
-            false
-        }
+        has_both(s, at, u, p)
     } else {
         false
     }
@@ -71,22 +77,6 @@ pub fn answer_in(s: &[u8], n: Counts, u: u32, p: u32, t: u32) -> Answer
         k += 1;
     }
     Answer::No
-}
-
-// One question: the table's refusal, 33, 34, 35, or the answer.
-pub fn question(s: &[u8], u: u32, p: u32, t: u32) -> Answer
-    ensures { λ r. ⌜ answerGiven r ≡ question (tableJudged (now (s .entry))) (policyOf (tableOf (now (s .entry)))) u p t ⌝ }
-{
-    match table_reader::read(s) {
-        TableAnswer::Refused(code) => Answer::Refused(code),
-        TableAnswer::Accepted(n) => {
-            let bad = policy::judge_arguments(n.users, n.permissions, u, p, t);
-            if bad != 0 {
-                return Answer::Refused(bad);
-            }
-            answer_in(s, n, u, p, t)
-        }
-    }
 }
 
 // The users of the entry of the row at `at` where the row covers minute t, whose phase is x, else none.

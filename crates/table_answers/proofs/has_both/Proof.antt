@@ -1,7 +1,7 @@
 use borrow.Author.Needs.{needs}
-use Rattle.table_asked.proofs.AskedLaws.{both-no, both-by}
-use Rattle.table_asked.proofs.has_both.Statement.{statement}
-use Rattle.table_asked.proofs.has_both.Tie as tie
+use Rattle.table_answers.proofs.GrantLaws.{both-no, both-by}
+use Rattle.table_answers.proofs.has_both.Statement.{statement}
+use Rattle.table_answers.proofs.has_both.Tie as tie
 
 entry-place-requires : tie.Need-entry-place-requires
 entry-place-requires c κs = search needs

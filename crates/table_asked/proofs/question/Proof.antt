@@ -5,8 +5,8 @@ use Rattle.table.specs.Table.{policyOf}
 use Rattle.table.specs.TableBytes.{tableOf}
 use Rattle.table.specs.Answers.{tableGiven}
 use Rattle.table_reader.proofs.ReadLaws.{closed, opened, arguments-as}
-use Rattle.table_answers.proofs.question.Statement.{statement}
-use Rattle.table_answers.proofs.question.Tie as tie
+use Rattle.table_asked.proofs.question.Statement.{statement}
+use Rattle.table_asked.proofs.question.Tie as tie
 
 read-requires : tie.Need-read-requires
 read-requires c κs = search needs
