@@ -196,3 +196,15 @@ pub fn answer_by(s: &[u8], n: Counts, starts: &[u64; 32], u: u32, p: u32, t: u32
     }
     search_starts(s, n, starts, u, p, t, minutes::phase(n.cycle, t))
 }
+
+// One question to an accepted table, where each role's rows begin at `starts`: 33, 34, 35, or the answer.
+pub fn question_by(s: &[u8], n: Counts, starts: &[u64; 32], u: u32, p: u32, t: u32) -> Answer
+    requires { ⌜ Opened (now s) n × FirstRows (now s) (now starts) ⌝ }
+    ensures { λ r. ⌜ answerGiven r ≡ question (tableJudged (now (s .entry))) (policyOf (tableOf (now (s .entry)))) u p t ⌝ }
+{
+    let bad = policy::judge_arguments(n.users, n.permissions, u, p, t);
+    if bad != 0 {
+        return Answer::Refused(bad);
+    }
+    answer_by(s, n, starts, u, p, t)
+}
