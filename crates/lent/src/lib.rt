@@ -94,7 +94,7 @@ pub fn answer_at(s: &[u8], source: Source, u: u32, p: u32, t: u32) -> Answer
 {
     match source {
         Source::Rota(l) => rota_answers::answer_in(s, l, u, p, t),
-        Source::Table(n) => table_answers::answer_in(s, n, u, p, t),
+        Source::Table(n) => table_asked::answer_in(s, n, u, p, t),
     }
 }
 

@@ -1,7 +1,7 @@
--- A page on a lent list of questions, once for a rota and for a table: `fn f(questions: &mut [Question], s: &[u8]) -> u32 { let b = begin(questions.len(), s); let mut i = 0; while i < b.count { questions[i] = answer_one(questions[i], s, b); i += 1; } b.refusal }`, for
--- either `begin`. The walk is `function`'s, which `rattle check` makes of each such function's source. The borrow of the list is opened once, before the loop, and closed once, after it. A turn takes one record out of the row, copies it, passes it to `answer_one`, and puts the
+-- A page on a lent list of questions, once for a rota and for a table: `fn f(questions: &mut [Question], s: &[u8]) -> u32 { let b = begin(questions.len(), s); let mut i = 0; while i < b.count { questions[i] = answer(questions[i], s, b); i += 1; } b.refusal }`, for
+-- either `begin` and its `answer`. The walk is `function`'s, which `rattle check` makes of each such function's source. The borrow of the list is opened once, before the loop, and closed once, after it. A turn takes one record out of the row, copies it, passes it to `answer`, and puts the
 -- result in its place. The invariant: the first i records are answered (`upTo` of EachLaws.antt).
---     meets        where `begin` and `answer_one` meet their contracts, the page meets its own
+--     meets        where `begin` and `answer` meet their contracts, the page meets its own
 -- Assumes nothing.
 use mathlib.Core.Path.{_≡_, refl, sym, ap, _∙_, subst}
 use mathlib.Core.Bool.{Bool, true, false, not}
@@ -48,21 +48,19 @@ use denote.Triple.Entry.{onEntry}
 use denote.Triple.Spec.{Meets, tripleOf}
 use denote.Triple.Walked.{says, Stays, stay-slice, stay-none-slice, walkOf, AllGo, goes-slice, goes-none-slice, Walks, ends-at, walked, walk-meets}
 use denote.Exit.{yes}
-use Rattle.lent.specs.Inside.{Lends, kindOf}
 use Rattle.lent.specs.declared.Kind.{Kind}
 use Rattle.page.specs.Page.{answered, pageJudged, pageAfter}
-use Rattle.page.specs.Inside.{Begins}
+use Rattle.page.specs.Inside.{Ready, Begins}
 use Rattle.page.specs.declared.Begun.{Begun}
 use Rattle.page.specs.declared.Question.{Question}
 use Rattle.page.proofs.EachLaws.{upTo, upTo-zero, upTo-length, upTo-set}
-use Rattle.page.proofs.PageLaws.{turned, counted-few, counted-lent, page-done}
+use Rattle.page.proofs.PageLaws.{counted-few, counted-ready, page-done}
 use Rattle.page.proofs.Question as Q
 use Rattle.page.proofs.Question.Laws as Q′
 use Rattle.page.proofs.Begun as B
 use Rattle.page.proofs.Begun.Laws as B′
-use Rattle.page.proofs.answer_one.Symbol.{name as #answer-one}
 
--- ---- the contracts of `begin`, of `answer_one` and of the page
+-- ---- the contracts of `begin`, of `answer` and of the page
 abbrev pub begin-ended : Ended
 begin-ended = record {
   signature = record { lifetimes = 1; outlives = []; params = plain (λ _. UInt w64) ∷ SliceRefOf (0 ∷ []) tt (plain (λ _. u8)) (λ _. tt) ∷ []; result = plain (λ _. B.the-row) };
@@ -84,11 +82,11 @@ page-ended = record {
 abbrev pub begin-clauses : Kind → {M : Type 1} (𝓤 : URA M) → Clauses 𝓤 begin-ended
 begin-clauses k 𝓤 κs a = record { ghost = Unit {0}; requires = λ _. emp 𝓤; ensures = λ _ r e. fact 𝓤 (Begins k (a .0) (now (a .1 .0)) r) }
 
-abbrev pub one-clauses : {M : Type 1} (𝓤 : URA M) → Clauses 𝓤 one-ended
-one-clauses 𝓤 κs a = record {
+abbrev pub one-clauses : Kind → {M : Type 1} (𝓤 : URA M) → Clauses 𝓤 one-ended
+one-clauses k 𝓤 κs a = record {
   ghost = Unit {0};
-  requires = λ _. fact 𝓤 (Lends (kindOf (a .1 .1 .0 .source)) (now (a .1 .0)) (a .1 .1 .0 .source));
-  ensures = λ _ r e. fact 𝓤 (r ≡ answered (kindOf (a .1 .1 .0 .source)) (now (a .1 .0)) (a .0));
+  requires = λ _. fact 𝓤 (Ready k (now (a .1 .0)) (a .1 .1 .0));
+  ensures = λ _ r e. fact 𝓤 (r ≡ answered k (now (a .1 .0)) (a .0));
 }
 
 abbrev pub page-clauses : Kind → {M : Type 1} (𝓤 : URA M) → Clauses 𝓤 page-ended
@@ -97,8 +95,8 @@ page-clauses k 𝓤 κs a = record { ghost = Unit {0}; requires = λ _. emp 𝓤
 abbrev pub Begin : Kind → {M : Type 1} (𝓤 : URA M) (H : Heap 𝓤) (A : Atoms 𝓤) → Contract 𝓤
 Begin k 𝓤 H A = tripleOf 𝓤 H A (begin-ended .signature) (closing 𝓤 H A begin-ended (begin-clauses k 𝓤))
 
-abbrev pub One : {M : Type 1} (𝓤 : URA M) (H : Heap 𝓤) (A : Atoms 𝓤) → Contract 𝓤
-One 𝓤 H A = tripleOf 𝓤 H A (one-ended .signature) (closing 𝓤 H A one-ended (one-clauses 𝓤))
+abbrev pub One : Kind → {M : Type 1} (𝓤 : URA M) (H : Heap 𝓤) (A : Atoms 𝓤) → Contract 𝓤
+One k 𝓤 H A = tripleOf 𝓤 H A (one-ended .signature) (closing 𝓤 H A one-ended (one-clauses k 𝓤))
 
 -- ---- the code
 abbrev word : Ty
@@ -110,13 +108,13 @@ qs-ty = sliceTy (tyRef (named 0) mut (pointee (Q.the-row .written)))
 abbrev bytes-ty : Ty
 bytes-ty = sliceTy (tyRef (named 1) imm (tyInt w8))
 
-abbrev turn : Body
-turn = seq (assign (place 6 []) (op2 (lt unsigned) (copy (place 4 [])) (copy (place 3 (field 1 ∷ [])))))
+abbrev turn : Name → Body
+turn one = seq (assign (place 6 []) (op2 (lt unsigned) (copy (place 4 [])) (copy (place 3 (field 1 ∷ [])))))
     (seq (cond (copy (place 6 [])) skip (exit 1))
     (seq (assign (place 8 []) (op2 (mul unsigned) (copy (place 4 [])) (int w64 24)))
     (seq (assign (place 9 []) (op2 offset (copy (place 1 (field 0 ∷ []))) (copy (place 8 []))))
     (seq (assign (place 10 []) (rvOpd (copy (place 9 (deref Q′.mir ∷ [])))))
-    (seq (call #answer-one (copy (place 10 []) ∷ copy (place 2 []) ∷ copy (place 3 []) ∷ []) (place 7 []))
+    (seq (call one (copy (place 10 []) ∷ copy (place 2 []) ∷ copy (place 3 []) ∷ []) (place 7 []))
     (seq (assign (place 11 []) (op2 (mul unsigned) (copy (place 4 [])) (int w64 24)))
     (seq (assign (place 12 []) (op2 offset (copy (place 1 (field 0 ∷ []))) (copy (place 11 []))))
     (seq (assign (place 12 (deref Q′.mir ∷ [])) (rvOpd (copy (place 7 []))))
@@ -125,16 +123,16 @@ turn = seq (assign (place 6 []) (op2 (lt unsigned) (copy (place 4 [])) (copy (pl
 abbrev rest : Body
 rest = seq (assign (place 0 []) (rvOpd (copy (place 3 (field 0 ∷ []))))) return
 
-abbrev pub function : Name → Fn
-function k = record {
+abbrev pub function : Name → Name → Fn
+function key one = record {
   lifetimes = 2;
   outlives = [];
   params = 2;
   locals = local (tyInt w32) valueLocal ∷ local qs-ty valueLocal ∷ local bytes-ty valueLocal ∷ local B′.mir valueLocal ∷ local word valueLocal ∷ local word valueLocal ∷ local tyBool valueLocal ∷ local Q′.mir valueLocal ∷ local word valueLocal ∷ local tyPtr valueLocal ∷ local Q′.mir valueLocal ∷ local word valueLocal ∷ local tyPtr valueLocal ∷ [];
   body = seq (assign (place 5 []) (rvOpd (copy (place 1 (field 1 ∷ [])))))
-      (seq (call k (copy (place 5 []) ∷ copy (place 2 []) ∷ []) (place 3 []))
+      (seq (call key (copy (place 5 []) ∷ copy (place 2 []) ∷ []) (place 3 []))
       (seq (assign (place 4 []) (rvOpd (int w64 0)))
-      (seq (block (loop turn)) rest)));
+      (seq (block (loop (turn one))) rest)));
 }
 
 abbrev stayed : Stays (page-ended .signature .params) (page-ended .kept)
@@ -155,7 +153,7 @@ fails : (t : Bool) → (Holds t → ⊥) → t ≡ false
 fails true f = absurd (f tt)
 fails false _ = refl
 
-module _ (k : Kind) (key : Name) {M : Type 1} (𝓤 : URA M) (H : Heap 𝓤) (A : Atoms 𝓤) (W : Given 𝓤 H A) (κ κ′ : Lft) (q q′ : Share) (bounds : AllOutlive 2 (page-ended .signature .outlives) (κ, (κ′, tt))) (b o : ℕ) (γ : GName) (xs : List Question) (s : RefT (List ℕ)) where
+module _ (k : Kind) (key one : Name) {M : Type 1} (𝓤 : URA M) (H : Heap 𝓤) (A : Atoms 𝓤) (W : Given 𝓤 H A) (κ κ′ : Lft) (q q′ : Share) (bounds : AllOutlive 2 (page-ended .signature .outlives) (κ, (κ′, tt))) (b o : ℕ) (γ : GName) (xs : List Question) (s : RefT (List ℕ)) where
   abbrev n : ℕ
   n = length xs
 
@@ -194,16 +192,16 @@ module _ (k : Kind) (key : Name) {M : Type 1} (𝓤 : URA M) (H : Heap 𝓤) (A 
   -- ---- once it has begun
   module _ (g : Begun) (begins : Begins k n (now s) g) (is-g : Is B.the-row g (LL.vals B.the-type B′.the-laws g)) where
     abbrev f : Question → Question
-    f = turned k (now s) g
+    f = answered k (now s)
 
-    -- the call of `answer_one` on the record p
-    abbrev to-one : Question → One 𝓤 H A .Ghost
+    -- the call of `answer` on the record p
+    abbrev to-one : Question → One k 𝓤 H A .Ghost
     to-one p = (((κ′, tt), (q′, tt), tt, (p, (s, (g, tt))), (vals p, (u₂ ∷ [], (LL.vals B.the-type B′.the-laws g, tt)))), tt)
 
-    one-asked : (p : Question) → Lends (kindOf (g .source)) (now s) (g .source) → ent 𝓤 (onEntry 𝓤 H A (one-ended .signature) (κ′, tt) (q′, tt) (p, (s, (g, tt))) (vals p, (u₂ ∷ [], (LL.vals B.the-type B′.the-laws g, tt)))) (One 𝓤 H A .pre (to-one p))
-    one-asked p lent = qed W ((‵ (flft κ′ q′) ⊛ ‵ ftrue) ∷ ‵ (owns (Q.the-row ∷ ShrSlice (named 0) κ′ u8 ∷ B.the-row ∷ []) (p, (s, (g, tt))) (vals p, (u₂ ∷ [], (LL.vals B.the-type B′.the-laws g, tt)))) ∷ []) ∵ says ! lent $ join ! $ done !
+    one-asked : (p : Question) → Ready k (now s) g → ent 𝓤 (onEntry 𝓤 H A (one-ended .signature) (κ′, tt) (q′, tt) (p, (s, (g, tt))) (vals p, (u₂ ∷ [], (LL.vals B.the-type B′.the-laws g, tt)))) (One k 𝓤 H A .pre (to-one p))
+    one-asked p ready = qed W ((‵ (flft κ′ q′) ⊛ ‵ ftrue) ∷ ‵ (owns (Q.the-row ∷ ShrSlice (named 0) κ′ u8 ∷ B.the-row ∷ []) (p, (s, (g, tt))) (vals p, (u₂ ∷ [], (LL.vals B.the-type B′.the-laws g, tt)))) ∷ []) ∵ says ! ready $ join ! $ done !
 
-    one-said : (p r : Question) → ent 𝓤 (ensured 𝓤 H A one-ended (one-clauses 𝓤) (κ′, tt) (p, (s, (g, tt))) tt r) (fact 𝓤 (r ≡ f p))
+    one-said : (p r : Question) → ent 𝓤 (ensured 𝓤 H A one-ended (one-clauses k 𝓤) (κ′, tt) (p, (s, (g, tt))) tt r) (fact 𝓤 (r ≡ f p))
     one-said p r = exE 𝓤 _ (λ ws. snd∗ 𝓤 (sem 𝓤 H A (lasts one-ended (κ′, tt) (p, (s, (g, tt))) ws)) (fact 𝓤 (r ≡ f p)))
 
     abbrev after : List Question
@@ -230,7 +228,7 @@ module _ (k : Kind) (key : Name) {M : Type 1} (𝓤 : URA M) (H : Heap 𝓤) (A 
     Nearer-wf : WellFounded Nearer
     Nearer-wf = InvImage·wf (λ (i : Upto). g .count - i .0) (Nat·lt-wfRel .wf)
 
-    module _ (𝓣 : Tables 𝓤 H) (known : Triple 𝓤 (𝓣 .C #answer-one) (One 𝓤 H A)) (room : Room Q.the-row n) (l₀ l₁ l₂ l₃ l₄ l₅ l₆ l₇ l₈ l₉ l₁₀ l₁₁ l₁₂ : ℕ) where
+    module _ (𝓣 : Tables 𝓤 H) (known : Triple 𝓤 (𝓣 .C one) (One k 𝓤 H A)) (room : Room Q.the-row n) (l₀ l₁ l₂ l₃ l₄ l₅ l₆ l₇ l₈ l₉ l₁₀ l₁₁ l₁₂ : ℕ) where
       abbrev C : Calls 𝓤 H
       C = 𝓣 .C
 
@@ -252,7 +250,7 @@ module _ (k : Kind) (key : Name) {M : Type 1} (𝓤 : URA M) (H : Heap 𝓤) (A 
       Turned i = afterTurn 𝓤 H (Below 𝓤 H A Nearer At i) (afterBlock 𝓤 H (afterSeq 𝓤 H (Wp 𝓤 H C Λ En rest (atReturn 𝓤 H En Post)) (atReturn 𝓤 H En Post)))
 
       -- a turn that answers one record
-      more : (i : Upto) → i .0 < g .count → Sq W (At i) (runs C Λ En turn (anyQ (Turned i)))
+      more : (i : Upto) → i .0 < g .count → Sq W (At i) (runs C Λ En (turn one) (anyQ (Turned i)))
       unfolding afterTurn
       more i small =
           assigns ! (bin ! (load ! (from ! (stop !)) (look ! 16 refl)) (load ! (from ! (fld ! refl (stop !))) (look-in ! 18 (sub ! 1 refl (whole !)))) tt) (from ! (stop !)) (init ! 12 refl (tt, tt)) $
@@ -265,10 +263,10 @@ module _ (k : Kind) (key : Name) {M : Type 1} (𝓤 : URA M) (H : Heap 𝓤) (A 
           -- [the record; what it owns; the others; the locals from 3; the open borrow; obs; auth; bytes' token; bytes]
           assigns ! (of-opd ! (load ! (from ! (hop ! (look ! 9 refl) (stop !))) (look-raw ! 0 refl))) (from ! (stop !)) (init ! 7 refl (LL.lawful Q.the-type Q′.the-laws 𝓤 H A W .typed p _ was .0)) $
           move ! (33 ∷ []) $ use1 W (‵ Own ⊛ ‵ Own) (shr-slice-copy 𝓤 H A W (named 1) κ′ u8 .twice s (u₂ ∷ [])) $ split ! $ nothing ! $ owned ! B.the-row (Is B.the-row) (LL.makes B.the-type B′.the-plain 𝓤 H A) g _ is-g $ fjoin ! $ move ! (1 ∷ 0 ∷ []) $ fjoin ! $ move ! (3 ∷ 0 ∷ []) $ fjoin ! $ move ! (33 ∷ 0 ∷ []) $
-          use2 W (raw (One 𝓤 H A .pre (to-one p))) (one-asked p (counted-lent k (now s) g n begins (i .0) small)) $
+          use2 W (raw (One k 𝓤 H A .pre (to-one p))) (one-asked p (counted-ready k (now s) g n begins (i .0) small)) $
           -- [what the call asks; bytes; the record; the others; the locals from 4; the open borrow; obs; auth]
-          calls-at ! (fmOf 𝓤 H (W .laws) 𝓣) (One 𝓤 H A) known (to-one p) (and-then ! (load ! (from ! (stop !)) (look ! 8 refl)) (and-then ! (load ! (from ! (stop !)) (look ! 24 refl)) (and-then ! (load ! (from ! (stop !)) (look ! 22 refl)) (no-more !)))) (λ u.
-          use1 W (later (some (λ (r : Question). ((‵ (flft κ′ q′) ⊛ ‵ ftrue) ⊛ ‵ (Q.the-row .own r (u ∷ []))) ⊛ raw (ensured 𝓤 H A one-ended (one-clauses 𝓤) (κ′, tt) (p, (s, (g, tt))) tt r)))) (id⊢ 𝓤 _) $ await ! tt $ pick ! (λ r.
+          calls-at ! (fmOf 𝓤 H (W .laws) 𝓣) (One k 𝓤 H A) known (to-one p) (and-then ! (load ! (from ! (stop !)) (look ! 8 refl)) (and-then ! (load ! (from ! (stop !)) (look ! 24 refl)) (and-then ! (load ! (from ! (stop !)) (look ! 22 refl)) (no-more !)))) (λ u.
+          use1 W (later (some (λ (r : Question). ((‵ (flft κ′ q′) ⊛ ‵ ftrue) ⊛ ‵ (Q.the-row .own r (u ∷ []))) ⊛ raw (ensured 𝓤 H A one-ended (one-clauses k 𝓤) (κ′, tt) (p, (s, (g, tt))) tt r)))) (id⊢ 𝓤 _) $ await ! tt $ pick ! (λ r.
           split ! $ move ! (1 ∷ []) $ use1 W (raw (fact 𝓤 (r ≡ f p))) (one-said p r) $ heard ! (r ≡ f p) (λ e. split ! $ move ! (1 ∷ []) $
           -- [the result; bytes' token; bytes; the record; the others; the locals from 5; the open borrow; obs; auth]
           peeks ! Q.the-row (Is Q.the-row) (shows 𝓤 H A Q.the-row) r (u ∷ []) (λ is.
@@ -303,7 +301,7 @@ module _ (k : Kind) (key : Name) {M : Type 1} (𝓤 : URA M) (H : Heap 𝓤) (A 
           next-fits = omega (arith, room .0, below)
 
       -- the turn that leaves the loop, and the rest of the body
-      ends : (i : Upto) → g .count ≤ i .0 → Sq W (At i) (runs C Λ En turn (anyQ (Turned i)))
+      ends : (i : Upto) → g .count ≤ i .0 → Sq W (At i) (runs C Λ En (turn one) (anyQ (Turned i)))
       unfolding afterTurn
       ends i over =
           assigns ! (bin ! (load ! (from ! (stop !)) (look ! 16 refl)) (load ! (from ! (fld ! refl (stop !))) (look-in ! 18 (sub ! 1 refl (whole !)))) tt) (from ! (stop !)) (init ! 12 refl (tt, tt)) $
@@ -318,17 +316,17 @@ module _ (k : Kind) (key : Name) {M : Type 1} (𝓤 : URA M) (H : Heap 𝓤) (A 
           move ! (11 ∷ 12 ∷ []) $ free1 ! $ move ! (9 ∷ 10 ∷ []) $ free1 ! $ move ! (7 ∷ 8 ∷ []) $ free1 ! $ move ! (5 ∷ 6 ∷ []) $ free1 ! $ move ! (3 ∷ 4 ∷ []) $ free1 ! $ free0 ! $
           owned ! (UInt w32) (Is (UInt w32)) (uint-makes 𝓤 H A W w32) (g .refusal) _ (LL.owed B.the-type B′.the-laws g _ is-g .0) $ by ! (exits room)
 
-      turns : (i : Upto) → Sq W (At i) (runs C Λ En turn (anyQ (Turned i)))
+      turns : (i : Upto) → Sq W (At i) (runs C Λ En (turn one) (anyQ (Turned i)))
       turns i = by-test (ltb (i .0) (g .count)) refl
         where
-          by-test : (t : Bool) → ltb (i .0) (g .count) ≡ t → Sq W (At i) (runs C Λ En turn (anyQ (Turned i)))
+          by-test : (t : Bool) → ltb (i .0) (g .count) ≡ t → Sq W (At i) (runs C Λ En (turn one) (anyQ (Turned i)))
           by-test true e = more i (ltb→lt (i .0) (g .count) (subst Holds (sym e) tt))
           by-test false e = ends i (nltb→le (i .0) (g .count) (subst (λ (t : Bool). Holds (not t)) (sym e) tt))
 
-  walk : (𝓣 : Tables 𝓤 H) → Triple 𝓤 (𝓣 .C key) (Begin k 𝓤 H A) → Triple 𝓤 (𝓣 .C #answer-one) (One 𝓤 H A) → Is (MutSlice (named 0) κ Q.the-row) (x xs) (u₁ ∷ []) → Is (ShrSlice (named 1) κ′ u8) s (u₂ ∷ [])
-      → ent 𝓤 (onEntry 𝓤 H A (page-ended .signature) (κ, (κ′, tt)) (q, (q′, tt)) a at) (WpFn 𝓤 H (𝓣 .C) (𝓣 .Λ) (function key) (u₁ ∷ u₂ ∷ []) Post)
+  walk : (𝓣 : Tables 𝓤 H) → Triple 𝓤 (𝓣 .C key) (Begin k 𝓤 H A) → Triple 𝓤 (𝓣 .C one) (One k 𝓤 H A) → Is (MutSlice (named 0) κ Q.the-row) (x xs) (u₁ ∷ []) → Is (ShrSlice (named 1) κ′ u8) s (u₂ ∷ [])
+      → ent 𝓤 (onEntry 𝓤 H A (page-ended .signature) (κ, (κ′, tt)) (q, (q′, tt)) a at) (WpFn 𝓤 H (𝓣 .C) (𝓣 .Λ) (function key one) (u₁ ∷ u₂ ∷ []) Post)
   walk 𝓣 begun known p₁ p₂ =
-      qed W ((‵ (flft κ q) ⊛ ‵ (flft κ′ q′) ⊛ ‵ ftrue) ∷ ‵ (owns (MutSlice (named 0) κ Q.the-row ∷ ShrSlice (named 1) κ′ u8 ∷ []) a at) ∷ []) ∵ enter ! (𝓣 .C) (𝓣 .Λ) (function key) (u₁ ∷ u₂ ∷ []) _ $
+      qed W ((‵ (flft κ q) ⊛ ‵ (flft κ′ q′) ⊛ ‵ ftrue) ∷ ‵ (owns (MutSlice (named 0) κ Q.the-row ∷ ShrSlice (named 1) κ′ u8 ∷ []) a at) ∷ []) ∵ enter ! (𝓣 .C) (𝓣 .Λ) (function key one) (u₁ ∷ u₂ ∷ []) _ $
       alloc1 ! (λ l₀. alloc1 ! (λ l₁. alloc1 ! (λ l₂. alloc1 ! (λ l₃. alloc1 ! (λ l₄. alloc1 ! (λ l₅. alloc1 ! (λ l₆. alloc1 ! (λ l₇. alloc1 ! (λ l₈. alloc1 ! (λ l₉. alloc1 ! (λ l₁₀. alloc1 ! (λ l₁₁. alloc1 ! (λ l₁₂. alloc0 ! $ params1 ! $
       pass1 ! (init ! 22 refl (mut-slice-lawful 𝓤 H A W (named 0) κ Q.the-row .typed (x xs) (u₁ ∷ []) p₁ .0)) $ pass1 ! (init ! 20 refl (shr-slice-lawful 𝓤 H A W (named 1) κ′ u8 .typed s (u₂ ∷ []) p₂ .0)) $ pass0 ! $
       assigns ! (of-opd ! (load ! (from ! (fld ! refl (stop !))) (look-in ! 22 (sub ! 1 refl (whole !))))) (from ! (stop !)) (init ! 14 refl (tt, record { fits = p₁ .0 .1 .0 })) $
@@ -347,7 +345,7 @@ module _ (k : Kind) (key : Name) {M : Type 1} (𝓤 : URA M) (H : Heap 𝓤) (A 
       peeks ! B.the-row (Is B.the-row) (shows 𝓤 H A B.the-row) g (u ∷ []) (λ is. drop ! $
       land ! (from ! (stop !)) (init ! 24 refl (LL.lawful B.the-type B′.the-laws 𝓤 H A W .typed g _ is .0)) $ rewrite ! 24 (λ (u : Val). ‵ (fat fullShare B′.mir l₃ 0 u)) (ap only (LL.tells B.the-type B′.the-laws g _ is)) refl $
       assigns ! (of-opd ! (lit ! tt)) (from ! (stop !)) (init ! 22 refl (tt, record { fits = lit< tt })) $
-      rewrite ! 2 (λ (l : List Question). ‵ (row Q.the-row fullShare l b o)) (sym (upTo-zero (turned k (now s) g) xs)) refl $
+      rewrite ! 2 (λ (l : List Question). ‵ (row Q.the-row fullShare l b o)) (sym (upTo-zero (answered k (now s)) xs)) refl $
       -- [bytes' token; bytes; the row; the open borrow; obs; auth; the locals from 6]
       keep ! (6 ∷ 7 ∷ 8 ∷ 9 ∷ 10 ∷ 11 ∷ 12 ∷ 13 ∷ 14 ∷ 15 ∷ 16 ∷ 17 ∷ 18 ∷ 19 ∷ 20 ∷ 21 ∷ 22 ∷ 23 ∷ 24 ∷ 25 ∷ 26 ∷ 27 ∷ 28 ∷ 29 ∷ 30 ∷ 31 ∷ 2 ∷ 3 ∷ 4 ∷ 5 ∷ 0 ∷ 1 ∷ []) $
       first ! $ blocks ! $ loops ! 𝓣 (Nearer g e (is-it g u is)) (Nearer-wf g e (is-it g u is)) (At g e (is-it g u is) 𝓣 known (p₁ .0 .1) l₀ l₁ l₂ l₃ l₄ l₅ l₆ l₇ l₈ l₉ l₁₀ l₁₁ l₁₂) (turns g e (is-it g u is) 𝓣 known (p₁ .0 .1) l₀ l₁ l₂ l₃ l₄ l₅ l₆ l₇ l₈ l₉ l₁₀ l₁₁ l₁₂) (0, zero-le))))))))))))))))))
@@ -355,14 +353,14 @@ module _ (k : Kind) (key : Name) {M : Type 1} (𝓤 : URA M) (H : Heap 𝓤) (A 
       is-it : (g : Begun) (u : Val) → Is B.the-row g (u ∷ []) → Is B.the-row g (LL.vals B.the-type B′.the-laws g)
       is-it g u is = subst (Is B.the-row g) (LL.tells B.the-type B′.the-laws g _ is) is
 
-module _ (k : Kind) (key : Name) {M : Type 1} (𝓤 : URA M) (H : Heap 𝓤) (A : Atoms 𝓤) (W : Given 𝓤 H A) where
-  page-walks : (𝓣 : Tables 𝓤 H) → Triple 𝓤 (𝓣 .C key) (Begin k 𝓤 H A) → Triple 𝓤 (𝓣 .C #answer-one) (One 𝓤 H A) → Walks 𝓤 H A page-ended stayed (WpFn 𝓤 H (𝓣 .C) (𝓣 .Λ) (function key)) (page-clauses k 𝓤)
-  page-walks 𝓣 begun known = walked 𝓤 H A page-ended stayed (page-clauses k 𝓤) (WpFn 𝓤 H (𝓣 .C) (𝓣 .Λ) (function key)) (λ κs. (slice-vals, (slice-vals, tt))) (λ κs. (mut-slice-tells (named 0) (κs .0) Q.the-row, (shr-slice-tells (named 1) (κs .1 .0) u8, tt)))
-      (λ κs qs bounds a g are. via 𝓤 _ (fst∗ 𝓤 _ (emp 𝓤)) (walk k key 𝓤 H A W (κs .0) (κs .1 .0) (qs .0) (qs .1 .0) bounds (a .0 .ptr .0) (a .0 .ptr .1) (a .0 .name) (a .0 .now) (a .1 .0) 𝓣 begun known (are .0) (are .1 .0)))
+module _ (k : Kind) (key one : Name) {M : Type 1} (𝓤 : URA M) (H : Heap 𝓤) (A : Atoms 𝓤) (W : Given 𝓤 H A) where
+  page-walks : (𝓣 : Tables 𝓤 H) → Triple 𝓤 (𝓣 .C key) (Begin k 𝓤 H A) → Triple 𝓤 (𝓣 .C one) (One k 𝓤 H A) → Walks 𝓤 H A page-ended stayed (WpFn 𝓤 H (𝓣 .C) (𝓣 .Λ) (function key one)) (page-clauses k 𝓤)
+  page-walks 𝓣 begun known = walked 𝓤 H A page-ended stayed (page-clauses k 𝓤) (WpFn 𝓤 H (𝓣 .C) (𝓣 .Λ) (function key one)) (λ κs. (slice-vals, (slice-vals, tt))) (λ κs. (mut-slice-tells (named 0) (κs .0) Q.the-row, (shr-slice-tells (named 1) (κs .1 .0) u8, tt)))
+      (λ κs qs bounds a g are. via 𝓤 _ (fst∗ 𝓤 _ (emp 𝓤)) (walk k key one 𝓤 H A W (κs .0) (κs .1 .0) (qs .0) (qs .1 .0) bounds (a .0 .ptr .0) (a .0 .ptr .1) (a .0 .name) (a .0 .now) (a .1 .0) 𝓣 begun known (are .0) (are .1 .0)))
 
   goes : AllGo 𝓤 H A W 2 (page-ended .signature .params) (page-ended .kept) stayed
   goes = (goes-slice 𝓤 H A W 2 0 tt (plain (λ _. Q.the-row)), (goes-none-slice 𝓤 H A W 2 (1 ∷ []) tt (plain (λ _. u8)) yes, tt))
 
-pub meets : (k : Kind) (key : Name) {M : Type 1} (𝓤 : URA M) (H : Heap 𝓤) (A : Atoms 𝓤) (W : Given 𝓤 H A) (𝓣 : Tables 𝓤 H) → Triple 𝓤 (𝓣 .C key) (Begin k 𝓤 H A) → Triple 𝓤 (𝓣 .C #answer-one) (One 𝓤 H A)
-    → Meets 𝓤 H A (page-ended .signature) (WpFn 𝓤 H (𝓣 .C) (𝓣 .Λ) (function key)) (closing 𝓤 H A page-ended (page-clauses k 𝓤))
-meets k key 𝓤 H A W 𝓣 begun known = walk-meets 𝓤 H A page-ended stayed W (goes k key 𝓤 H A W) (page-clauses k 𝓤) (WpFn 𝓤 H (𝓣 .C) (𝓣 .Λ) (function key)) (WpFn-mono 𝓤 H (W .laws) 𝓣 (function key)) (page-walks k key 𝓤 H A W 𝓣 begun known)
+pub meets : (k : Kind) (key one : Name) {M : Type 1} (𝓤 : URA M) (H : Heap 𝓤) (A : Atoms 𝓤) (W : Given 𝓤 H A) (𝓣 : Tables 𝓤 H) → Triple 𝓤 (𝓣 .C key) (Begin k 𝓤 H A) → Triple 𝓤 (𝓣 .C one) (One k 𝓤 H A)
+    → Meets 𝓤 H A (page-ended .signature) (WpFn 𝓤 H (𝓣 .C) (𝓣 .Λ) (function key one)) (closing 𝓤 H A page-ended (page-clauses k 𝓤))
+meets k key one 𝓤 H A W 𝓣 begun known = walk-meets 𝓤 H A page-ended stayed W (goes k key one 𝓤 H A W) (page-clauses k 𝓤) (WpFn 𝓤 H (𝓣 .C) (𝓣 .Λ) (function key one)) (WpFn-mono 𝓤 H (W .laws) 𝓣 (function key one)) (page-walks k key one 𝓤 H A W 𝓣 begun known)

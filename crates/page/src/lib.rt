@@ -1,17 +1,16 @@
 // A page of questions: each record's place receives what the single question gives. The bytes are judged once, before any question; the list of records
 // is lent to the exported functions (crate softlode), whose loop is over these steps by value.
 ghost use mathlib.Core.Path.{_≡_};
-ghost use Rattle.policy.specs.Policy.{question, answerGiven};
-ghost use Rattle.lent.specs.Lent.{judgedAs, policyAs};
-ghost use Rattle.lent.specs.Inside.{kindOf, Lends};
+ghost use lib.Dec.{ltb};
+ghost use Rattle.policy.specs.Policy.{answerGiven};
 ghost use Rattle.lent.specs.declared.Kind.the-variants as Kind;
 ghost use Rattle.page.specs.Page.{placeTold, answered};
-ghost use Rattle.page.specs.Inside.{Begins};
-use lent::Kind;
-use lent::Lending;
-use lent::Source;
+ghost use Rattle.page.specs.Inside.{Ready, Begins, withAnswer};
 use policy::Answer;
+use rota::Layout;
+use rota::LayoutAnswer;
 use table::Counts;
+use table::TableAnswer;
 
 // What a question's record has room for: a refusal's number, or 0; 1 for yes, else 0; the role of a yes, else 0.
 #[repr(C)]
@@ -30,11 +29,49 @@ pub struct Question {
     pub answer: Place,
 }
 
-// How a page begins: a refusal's number, or 0; how many questions are to be answered, none where anything is refused; and what answers them.
+// How a page begins: a refusal's number, or 0; how many questions are to be answered, none where anything is refused; and what answers them: where a
+// rota has its parts, or a table's counts with where each role's rows begin.
 pub struct Begun {
     pub refusal: u32,
     pub count: usize,
-    pub source: Source,
+    pub layout: Layout,
+    pub counts: Counts,
+    pub starts: [u64; 32],
+}
+
+// Where there is no rota.
+fn no_layout() -> Layout
+    ensures { λ r. ⌜ r .«hours_at» ≡ 0 ⌝ }
+{
+    Layout {
+        counts: rota::Counts {
+            cycle: 0,
+            hours: 0,
+            users: 0,
+            permissions: 0,
+            roles: 0,
+            user_rows: 0,
+            permission_rows: 0,
+        },
+        hours_at: 0,
+        roles_at: 0,
+        user_rows_at: 0,
+        permission_rows_at: 0,
+    }
+}
+
+// Where there is no table.
+fn no_counts() -> Counts
+    ensures { λ r. ⌜ r .rows ≡ 0 ⌝ }
+{
+    Counts {
+        cycle: 0,
+        users: 0,
+        permissions: 0,
+        roles: 0,
+        derived: 0,
+        rows: 0,
+    }
 }
 
 // Nothing is answered.
@@ -44,44 +81,61 @@ fn refused(code: u8) -> Begun
     Begun {
         refusal: code as u32,
         count: 0,
-        source: Source::Table(Counts {
-            cycle: 0,
-            users: 0,
-            permissions: 0,
-            roles: 0,
-            derived: 0,
-            rows: 0,
-        }),
+        layout: no_layout(),
+        counts: no_counts(),
+        starts: [0; 32],
     }
 }
 
-// Judges a list of n questions, then the bytes.
-fn begin(kind: Kind, n: usize, s: &[u8]) -> Begun
-    ensures { λ r. ⌜ Begins kind n (now (s .entry)) r ⌝ }
+// Everything is answered, by these.
+fn accepted(n: usize, layout: Layout, counts: Counts, starts: [u64; 32]) -> Begun
+    ensures { λ r. ⌜ (r .refusal ≡ 0) × (r .count ≡ n) × (r .layout ≡ layout) × (r .counts ≡ counts) × (r .starts ≡ starts) ⌝ }
 {
-    if 256 < n {
-        return refused(51);
-    }
-    match lent::lend(kind, s) {
-        Lending::Refused(code) => refused(code),
-        Lending::Lent(source) => Begun {
-            refusal: 0,
-            count: n,
-            source,
-        },
+    Begun {
+        refusal: 0,
+        count: n,
+        layout,
+        counts,
+        starts,
     }
 }
 
+// Whether a list has more than 256 questions.
+fn is_long(n: usize) -> bool
+    ensures { λ r. ⌜ r ≡ ltb 256 n ⌝ }
+{
+    256 < n
+}
+
+// Judges a list of n questions, then the rota.
 pub fn begin_rota(n: usize, s: &[u8]) -> Begun
     ensures { λ r. ⌜ Begins Kind.Rota n (now (s .entry)) r ⌝ }
 {
-    begin(Kind::Rota, n, s)
+    if is_long(n) {
+        return refused(51);
+    }
+    match rota::locate(s) {
+        LayoutAnswer::Refused(code) => refused(code),
+        LayoutAnswer::Accepted(layout) => accepted(n, layout, no_counts(), [0; 32]),
+    }
 }
 
+// Judges a list of n questions, then the table.
 pub fn begin_table(n: usize, s: &[u8]) -> Begun
     ensures { λ r. ⌜ Begins Kind.Table n (now (s .entry)) r ⌝ }
 {
-    begin(Kind::Table, n, s)
+    if is_long(n) {
+        return refused(51);
+    }
+    match table_reader::read(s) {
+        TableAnswer::Refused(code) => refused(code),
+        TableAnswer::Accepted(counts) => accepted(
+            n,
+            no_layout(),
+            counts,
+            table_asked::first_rows(s, counts),
+        ),
+    }
 }
 
 // What a place receives.
@@ -107,32 +161,41 @@ fn tell(a: Answer) -> Place
     }
 }
 
-// The answer to one question on accepted bytes: 33, 34, 35, or what they answer.
-fn ask(s: &[u8], source: Source, u: u32, p: u32, t: u32) -> Answer
-    requires { ⌜ Lends (kindOf source) (now s) source ⌝ }
-    ensures { λ r. ⌜ answerGiven r ≡ question (judgedAs (kindOf source) (now (s .entry))) (policyAs (kindOf source) (now (s .entry))) u p t ⌝ }
-{
-    let bad = policy::judge_arguments(lent::users(source), lent::permissions(source), u, p, t);
-    if bad != 0 {
-        return Answer::Refused(bad);
-    }
-    lent::answer_at(s, source, u, p, t)
-}
-
-// A record with its answer; the bytes are those that the page began with.
-pub fn answer_one(q: Question, s: &[u8], b: Begun) -> Question
-    requires { ⌜ Lends (kindOf (b .source)) (now s) (b .source) ⌝ }
-    ensures { λ r. ⌜ r ≡ answered (kindOf (b .source)) (now (s .entry)) q ⌝ }
+// A record with this answer in its place.
+fn put(q: Question, a: Answer) -> Question
+    ensures { λ r. ⌜ r ≡ withAnswer q (placeTold (answerGiven a)) ⌝ }
 {
     let user = q.user;
     let permission = q.permission;
     let minute = q.minute;
-    let source = b.source;
-    let answer = tell(ask(s, source, user, permission, minute));
+    let answer = tell(a);
     Question {
         user,
         permission,
         minute,
         answer,
     }
+}
+
+// A record with its answer by the rota that the page began with.
+pub fn answer_by_rota(q: Question, s: &[u8], b: Begun) -> Question
+    requires { ⌜ Ready Kind.Rota (now s) b ⌝ }
+    ensures { λ r. ⌜ r ≡ answered Kind.Rota (now (s .entry)) q ⌝ }
+{
+    put(
+        q,
+        rota_answers::question_in(s, b.layout, q.user, q.permission, q.minute),
+    )
+}
+
+// A record with its answer by the table that the page began with.
+pub fn answer_by_table(q: Question, s: &[u8], b: Begun) -> Question
+    requires { ⌜ Ready Kind.Table (now s) b ⌝ }
+    ensures { λ r. ⌜ r ≡ answered Kind.Table (now (s .entry)) q ⌝ }
+{
+    let starts = b.starts;
+    put(
+        q,
+        table_asked::question_by(s, b.counts, &starts, q.user, q.permission, q.minute),
+    )
 }

@@ -84,7 +84,7 @@ pub extern "C" fn softlode_rota_question(s: &[u8], u: u32, p: u32, t: u32) -> To
 pub extern "C" fn softlode_table_question(s: &[u8], u: u32, p: u32, t: u32) -> Told
     ensures { λ r. ⌜ r ≡ questionTold (question (tableJudged (now (s .entry))) (tablePolicy (tableOf (now (s .entry)))) u p t) ⌝ }
 {
-    told::tell_answer(table_answers::question(s, u, p, t))
+    told::tell_answer(table_asked::question(s, u, p, t))
 }
 
 // When a permission can next be used, by a table.
@@ -111,7 +111,7 @@ pub extern "C" fn softlode_rota_page(questions: &mut [Question], s: &[u8]) -> u3
     let b = page::begin_rota(questions.len(), s);
     let mut i = 0;
     while i < b.count {
-        questions[i] = page::answer_one(questions[i], s, b);
+        questions[i] = page::answer_by_rota(questions[i], s, b);
         i += 1;
     }
     b.refusal
@@ -124,7 +124,7 @@ pub extern "C" fn softlode_table_page(questions: &mut [Question], s: &[u8]) -> u
     let b = page::begin_table(questions.len(), s);
     let mut i = 0;
     while i < b.count {
-        questions[i] = page::answer_one(questions[i], s, b);
+        questions[i] = page::answer_by_table(questions[i], s, b);
         i += 1;
     }
     b.refusal

@@ -1,4 +1,4 @@
--- The page of `PageWalk.antt` of crate page over `begin_rota`.
+-- The page of `PageWalk.antt` of crate page over `begin_rota` and `answer_by_rota`.
 -- Assumes nothing.
 use contract.Running.{givenOf, tables, tablesOf}
 use denote.Triple.Spec.{tripleOf}
@@ -7,8 +7,8 @@ use Rattle.lent.specs.declared.Kind.the-variants.{Rota}
 use Rattle.page.proofs.PageWalk.{Begin, One, meets}
 use Rattle.page.proofs.begin_rota.Symbol as begin-def
 use Rattle.page.proofs.begin_rota.Met as begin-thm
-use Rattle.page.proofs.answer_one.Symbol as one-def
-use Rattle.page.proofs.answer_one.Met as one-thm
+use Rattle.page.proofs.answer_by_rota.Symbol as one-def
+use Rattle.page.proofs.answer_by_rota.Met as one-thm
 use Rattle.softlode.proofs.softlode_rota_page as page
 use Rattle.softlode.proofs.softlode_rota_page.Key as key
 use Rattle.softlode.proofs.softlode_rota_page.Statement as stated
@@ -19,6 +19,6 @@ unfolding code.routine tablesOf
 softlode-rota-page-spec 𝓤 H 𝓜 𝓖 𝓡 =
     entered 𝓤 H (tripleOf 𝓤 H (𝓖 .A) page.signature (page.spec 𝓤 H (𝓖 .A) (𝓜 .mem) (𝓡 .run)))
     (tables 𝓤 H 𝓜 𝓡 code.env .C) (tables 𝓤 H 𝓜 𝓡 code.env .Λ) key.name code.function (code.unfolded 𝓤 H 𝓜 𝓡)
-    (meets Rota begin-def.name 𝓤 H (𝓖 .A) (givenOf 𝓤 H 𝓜 𝓖) (tablesOf 𝓤 H 𝓜 (tables 𝓤 H 𝓜 𝓡 code.env))
+    (meets Rota begin-def.name one-def.name 𝓤 H (𝓖 .A) (givenOf 𝓤 H 𝓜 𝓖) (tablesOf 𝓤 H 𝓜 (tables 𝓤 H 𝓜 𝓡 code.env))
     (cited 𝓤 H (Begin Rota 𝓤 H (𝓖 .A)) 𝓜 𝓡 code.env begin-def.name begin-def.routine code.calls-page·begin-rota (begin-thm.met 𝓤 H 𝓜 𝓖 𝓡))
-    (cited 𝓤 H (One 𝓤 H (𝓖 .A)) 𝓜 𝓡 code.env one-def.name one-def.routine code.calls-page·answer-one (one-thm.met 𝓤 H 𝓜 𝓖 𝓡)))
+    (cited 𝓤 H (One Rota 𝓤 H (𝓖 .A)) 𝓜 𝓡 code.env one-def.name one-def.routine code.calls-page·answer-by-rota (one-thm.met 𝓤 H 𝓜 𝓖 𝓡)))
