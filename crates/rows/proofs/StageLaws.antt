@@ -1,7 +1,7 @@
 -- The rows of an accepted table beside one whose stage is known: at most one row of a role covers a minute.
 --     stage-lower, stage-higher, stage-early, stage-over, stage-off, stage-past, stage-on     a row's stage, by the tests of the code
 --     source-read, window-read                                                                 a row, as it was read
---     Begun, none-begun, none-ahead                                                            the rows before one that has begun, and from one ahead on
+--     Begun, none-begun, none-ahead                                                            rows before one that has begun, and from one ahead on
 --     Narrowed, narrow-none, narrow-up, narrow-down                                            the rows that are left to look at
 --     row-found, row-none, row-there                                                           the row, or that there is none
 -- Assumes nothing.

@@ -86,7 +86,9 @@ module _ (s : List ℕ) (n : Counts) (o : Opened s n) (r t first past : ℕ) (f 
 
   in-turn : first ≤ past
   in-turn =
-      ⊎-elim (λ (l : past < first). absurd (omega (arith, f .below past l, g .above past (le-refl past) (omega (arith, f .most))))) (λ (l : first ≤ past). l)
+      ⊎-elim
+      (λ (l : past < first). absurd (omega (arith, f .below past l, g .above past (le-refl past) (omega (arith, f .most)))))
+      (λ (l : first ≤ past). l)
       (lt-or-le past first)
 
   pub left-all : Left s r t first past first past
@@ -152,7 +154,8 @@ module _ (s : List ℕ) (n : Counts) (o : Opened s n) (r t first past : ℕ) (f 
     among-none m = none-of (λ i k. before-first i (omega arith))
 
     -- row k is the last that has, and v is whether it covers the minute
-    module _ (m : first < a) (k : ℕ) (ek : k + 1 ≡ a) (v : Bool) (ev : v ≡ covers (cycleOf s) (rowAtByte s (16 + 17 * n .derived + 16 * k) .window) t) where
+    module _ (m : first < a) (k : ℕ) (ek : k + 1 ≡ a) (v : Bool)
+        (ev : v ≡ covers (cycleOf s) (rowAtByte s (16 + 17 * n .derived + 16 * k) .window) t) where
       last : coversFor s r t k ≡ v
       last =
           let e = eq-eqb (sourceOf s k) r (of-role k (omega arith) (omega (arith, w .ordered, w .to))) in

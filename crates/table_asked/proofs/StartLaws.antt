@@ -21,7 +21,7 @@ use Rattle.table.proofs.FineLaws.{table-fine}
 use Rattle.table_answers.proofs.SourceLaws.{sources-up}
 use Rattle.table_asked.specs.Starts.{RowsBelow, BeginsAt, FirstOf}
 
--- the same of the counts that were read
+-- no later than after the last row, by the counts that were read
 pub begins-most : (s : List ℕ) (n : Counts) → Opened s n → (r a : ℕ) → BeginsAt s r a → a ≤ n .rows
 begins-most s n o r a b = omega (arith, b .most, counts-are s n (o .counts) .rows)
 
@@ -78,7 +78,8 @@ module _ (s : List ℕ) (k : ℕ) (starts : List ℕ) (w : FirstOf s k starts) (
       go r m (inl h) = subst (BeginsAt s r) (sym (getD-set-other starts k r v 0 (λ q. absurd (omega arith)))) (w .begins r h)
       go r m (inr h) =
           let q : k ≡ r = omega arith in
-          subst (λ (j : ℕ). BeginsAt s j (getD (set starts k v) j 0)) q (subst (BeginsAt s k) (sym (getD-set-same starts k v 0 (omega (arith, w .long)))) b)
+          subst (λ (j : ℕ). BeginsAt s j (getD (set starts k v) j 0)) q
+          (subst (BeginsAt s k) (sym (getD-set-same starts k v 0 (omega (arith, w .long)))) b)
 
 -- rows that are of roles below one are of roles below the next
 pub below-next : (s : List ℕ) (r a : ℕ) → BeginsAt s r a → RowsBelow s (r + 1) a

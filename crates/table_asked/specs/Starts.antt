@@ -18,7 +18,7 @@ RowsBelow s r a = (i : ℕ) → i < a → sourceOf s i < r
 -- where the rows of role r begin: those before are of lower roles, those from there on are not
 pub record BeginsAt (s : List ℕ) (r a : ℕ) : Type 0 where
   pub most : a ≤ rowsOf s
-  pub below : (i : ℕ) → i < a → sourceOf s i < r
+  pub below : RowsBelow s r a
   pub above : (i : ℕ) → a ≤ i → i < rowsOf s → r ≤ sourceOf s i
 
 -- for each of the first n roles, where its rows begin; and for every role
@@ -33,6 +33,6 @@ FirstRows s starts = FirstOf s (rolesOf s) starts
 unfoldable pub hasBegun : Window → ℕ → ℕ → Bool
 hasBegun w t x = leb (w .end) t || (leb (w .begin) t && leb (w .offset) x)
 
--- whether a role answers at a minute, where row k is its row then
+-- v is whether a role answers at a minute: every role and minute whose row is row k
 abbrev pub Decides : List ℕ → ℕ → ℕ → ℕ → Bool → Type 0
 Decides s u p k v = (r t : ℕ) → k ≡ rowFor s r t → v ≡ through (tableOf s) u p t r

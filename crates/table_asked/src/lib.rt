@@ -1,4 +1,5 @@
-// One question to an accepted table: the row of each role is searched for, where the roles have more than a few rows.
+// Questions to an accepted table: the row of each role is searched for, where the roles have more than a few rows. For one question the search goes
+// over all rows, for many over the rows of each role, which are found once.
 ghost use mathlib.Core.Path.{_≡_};
 ghost use Prim.Native.Nat.{_+_, _%_, _≤_, _<_};
 ghost use lib.ListN.{length};
@@ -26,8 +27,8 @@ fn row_decides(s: &[u8], n: Counts, k: usize, u: u32, p: u32) -> bool
     }
 }
 
-// The answer of an accepted table by a search for each role, lowest first: the first role whose row covers the minute and has both bits set. Rows go by
-// role, so that each search begins where the last one ended.
+// The answer of an accepted table by a search for each role, lowest first: the first role whose row covers the minute and has both bits set. Rows go
+// by role, so that each search begins where the last one ended.
 fn search_roles(s: &[u8], n: Counts, u: u32, p: u32, t: u32, x: u32) -> Answer
     requires { ⌜ Opened (now s) n × (u < n .users) × (p < n .permissions) × (x ≡ t % cycleOf (now s)) ⌝ }
     ensures { λ r. ⌜ answerGiven r ≡ given (answer (tableOf (now (s .entry))) u p t) ⌝ }
@@ -127,8 +128,8 @@ fn begun(s: &[u8], at: usize, t: u32, x: u32) -> bool
     }
 }
 
-// Of the rows from `first` to before `past`, which are a role's, the one that covers minute t, whose phase is x, or the number of rows. It is the last
-// that has begun, or there is none.
+// Of the rows from `first` to before `past`, which are a role's, the one that covers minute t, whose phase is x, or the number of rows. It is the
+// last that has begun, or there is none.
 fn row_among(s: &[u8], n: Counts, role: usize, first: usize, past: usize, t: u32, x: u32) -> usize
     requires { ⌜ Opened (now s) n × (x ≡ t % cycleOf (now s)) × BeginsAt (now s) role first × BeginsAt (now s) (role + 1) past ⌝ }
     ensures { λ r. ⌜ r ≡ rowFor (now (s .entry)) role t ⌝ }
@@ -153,15 +154,16 @@ fn row_among(s: &[u8], n: Counts, role: usize, first: usize, past: usize, t: u32
     if covered { k } else { all }
 }
 
-// The row of a role that covers minute t, whose phase is x, or the number of rows, where each role's rows begin at `starts`. Those of the last role go
-// to the end.
+// The row of a role that covers minute t, whose phase is x, or the number of rows, where each role's rows begin at `starts`. Those of the last role
+// go to the end.
 fn row_by(s: &[u8], n: Counts, starts: &[u64; 32], role: usize, t: u32, x: u32) -> usize
     requires { ⌜ Opened (now s) n × FirstRows (now s) (now starts) × (x ≡ t % cycleOf (now s)) × (role < n .roles) ⌝ }
     ensures { λ r. ⌜ r ≡ rowFor (now (s .entry)) role t ⌝ }
 {
     let first = starts[role] as usize;
     let next = role + 1;
-    let mut past = n.rows as usize;
+    let all = n.rows as usize;
+    let mut past = all;
     if next < n.roles as usize {
         past = starts[next] as usize;
     }

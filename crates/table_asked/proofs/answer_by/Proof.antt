@@ -15,7 +15,9 @@ phase-requires : tie.Need-phase-requires
 phase-requires c κs = laid _ _ (opened-header _ _ (c .before .before .before .before .pre .0)) .cycle-some
 
 search-starts-requires : tie.Need-search-starts-requires
-search-starts-requires c κs = let q = c .before .before .before .before .before .pre in (q .0, q .1, q .2, q .3, phase-is _ _ (q .0) _ _ (c .phase .ensures))
+search-starts-requires c κs =
+    let q = c .before .before .before .before .before .pre in
+    (q .0, q .1, q .2, q .3, phase-is _ _ (q .0) _ _ (c .phase .ensures))
 
 returns-2 : tie.Need-returns-2
 returns-2 c = search needs

@@ -48,7 +48,8 @@ row-role-requires c κs =
     row-inside _ _ o _ (omega (arith, c .before .loop .inv .most, c .loop-test .taken, counts-are _ _ (o .counts) .rows))
 
 add-a : tie.Need-add-a Inv-loop μ-loop
-add-a c = omega (arith, c .before .before .before .loop .inv .most, counts-are _ _ (c .before .before .before .before .before .before .before .pre .0 .counts) .rows)
+add-a c =
+    omega (arith, c .before .before .before .loop .inv .most, counts-are _ _ (c .before .before .before .before .before .before .before .pre .0 .counts) .rows)
 
 loop-less : tie.Need-loop-less Inv-loop μ-loop
 loop-less c = search needs
@@ -56,7 +57,8 @@ loop-less c = search needs
 loop-again : tie.Need-loop-again Inv-loop μ-loop
 loop-again c =
     let o = c .before .before .before .before .before .before .before .pre .0 in
-    between-up _ _ o _ _ _ _ _ (c .before .before .before .loop .inv) (omega (arith, c .before .before .loop-test .taken)) (source-read _ _ o _ _ (c .before .row-role .ensures)) (c .if1 .taken) _ (omega arith)
+    between-up _ _ o _ _ _ _ _ (c .before .before .before .loop .inv) (omega (arith, c .before .before .loop-test .taken))
+    (source-read _ _ o _ _ (c .before .row-role .ensures)) (c .if1 .taken) _ (omega arith)
 
 loop-less-2 : tie.Need-loop-less-2 Inv-loop μ-loop
 loop-less-2 c = search needs
@@ -64,7 +66,8 @@ loop-less-2 c = search needs
 loop-again-2 : tie.Need-loop-again-2 Inv-loop μ-loop
 loop-again-2 c =
     let o = c .before .before .before .before .before .before .before .pre .0 in
-    between-down _ _ o _ _ _ _ _ (c .before .before .before .loop .inv) (omega (arith, c .before .before .loop-test .taken)) (source-read _ _ o _ _ (c .before .row-role .ensures)) (c .if1 .left) (omega arith)
+    between-down _ _ o _ _ _ _ _ (c .before .before .before .loop .inv) (omega (arith, c .before .before .loop-test .taken))
+    (source-read _ _ o _ _ (c .before .row-role .ensures)) (c .if1 .left) (omega arith)
 
 returns : tie.Need-returns Inv-loop μ-loop
 returns c = begins-there _ _ _ _ (c .before .loop .inv) (c .loop-test .left)

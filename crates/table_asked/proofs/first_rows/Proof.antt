@@ -50,7 +50,8 @@ loop-again c =
 
 returns : tie.Need-returns Inv-loop μ-loop
 returns c =
-    rw (← (le-antisymm (c .before .loop .inv .0) (c .loop-test .left) ∙ counts-are _ _ (c .before .before .before .before .pre .counts) .roles)) (c .before .loop .inv .1)
+    rw (← (le-antisymm (c .before .loop .inv .0) (c .loop-test .left) ∙ counts-are _ _ (c .before .before .before .before .pre .counts) .roles))
+    (c .before .loop .inv .1)
 
 pub first-rows-spec : {M : Type 1} → statement M
 first-rows-spec =

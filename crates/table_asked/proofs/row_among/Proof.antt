@@ -54,7 +54,8 @@ loop-less c = search needs
 loop-again : tie.Need-loop-again Inv-loop μ-loop
 loop-again c =
     let q = c .before .before .before .before .before .before .before .pre in
-    left-up _ _ (q .0) _ _ _ _ (q .2) (q .3) _ _ _ (c .before .before .before .loop .inv) (omega arith) (omega (arith, c .before .before .loop-test .taken)) _ _ (q .1) (c .before .begun .ensures) (c .if1 .taken) _ (omega arith)
+    left-up _ _ (q .0) _ _ _ _ (q .2) (q .3) _ _ _ (c .before .before .before .loop .inv) (omega arith)
+    (omega (arith, c .before .before .loop-test .taken)) _ _ (q .1) (c .before .begun .ensures) (c .if1 .taken) _ (omega arith)
 
 loop-less-2 : tie.Need-loop-less-2 Inv-loop μ-loop
 loop-less-2 c = search needs
@@ -62,22 +63,26 @@ loop-less-2 c = search needs
 loop-again-2 : tie.Need-loop-again-2 Inv-loop μ-loop
 loop-again-2 c =
     let q = c .before .before .before .before .before .before .before .pre in
-    left-down _ _ (q .0) _ _ _ _ (q .2) (q .3) _ _ _ (c .before .before .before .loop .inv) (omega arith) (omega (arith, c .before .before .loop-test .taken)) _ _ (q .1) (c .before .begun .ensures) (c .if1 .left)
+    left-down _ _ (q .0) _ _ _ _ (q .2) (q .3) _ _ _ (c .before .before .before .loop .inv) (omega arith)
+    (omega (arith, c .before .before .loop-test .taken)) _ _ (q .1) (c .before .begun .ensures) (c .if1 .left)
 
 returns : tie.Need-returns Inv-loop μ-loop
 returns c =
-    let q = c .before .before .before .before .before .before .pre in among-none _ _ (q .0) _ _ _ _ (q .2) (q .3) _ _ (c .before .before .loop .inv) (c .before .loop-test .left) (omega (arith, c .if2 .taken))
+    let q = c .before .before .before .before .before .before .pre in
+    among-none _ _ (q .0) _ _ _ _ (q .2) (q .3) _ _ (c .before .before .loop .inv) (c .before .loop-test .left) (omega (arith, c .if2 .taken))
 
 sub-k : tie.Need-sub-k Inv-loop μ-loop
 sub-k c = search needs
 
 mul-row-covers : tie.Need-mul-row-covers Inv-loop μ-loop
 mul-row-covers c =
-    let q = c .before .before .before .before .before .before .pre in omega (arith, c .before .before .loop .inv .ordered, c .before .before .loop .inv .to, begins-most _ _ (q .0) _ _ (q .3))
+    let q = c .before .before .before .before .before .before .pre in
+    omega (arith, c .before .before .loop .inv .ordered, c .before .before .loop .inv .to, begins-most _ _ (q .0) _ _ (q .3))
 
 add-row-covers : tie.Need-add-row-covers Inv-loop μ-loop
 add-row-covers c =
-    let q = c .before .before .before .before .before .before .pre in omega (arith, c .before .before .loop .inv .ordered, c .before .before .loop .inv .to, begins-most _ _ (q .0) _ _ (q .3))
+    let q = c .before .before .before .before .before .before .pre in
+    omega (arith, c .before .before .loop .inv .ordered, c .before .before .loop .inv .to, begins-most _ _ (q .0) _ _ (q .3))
 
 row-covers-requires : tie.Need-row-covers-requires Inv-loop μ-loop
 row-covers-requires c κs =
@@ -88,12 +93,14 @@ row-covers-requires c κs =
 returns-2 : tie.Need-returns-2 Inv-loop μ-loop
 returns-2 c =
     let q = c .before .before .before .before .before .before .before .before .pre in
-    among-last _ _ (q .0) _ _ _ _ (q .2) (q .3) _ _ (c .before .before .before .before .loop .inv) (c .before .before .before .loop-test .left) (omega (arith, c .before .before .if2 .left)) _ (omega (arith, c .before .before .if2 .left)) _ (c .before .row-covers .ensures) (c .if3 .taken)
+    among-last _ _ (q .0) _ _ _ _ (q .2) (q .3) _ _ (c .before .before .before .before .loop .inv) (c .before .before .before .loop-test .left)
+    (omega (arith, c .before .before .if2 .left)) _ (omega (arith, c .before .before .if2 .left)) _ (c .before .row-covers .ensures) (c .if3 .taken)
 
 returns-3 : tie.Need-returns-3 Inv-loop μ-loop
 returns-3 c =
     let q = c .before .before .before .before .before .before .before .before .pre in
-    among-gone _ _ (q .0) _ _ _ _ (q .2) (q .3) _ _ (c .before .before .before .before .loop .inv) (c .before .before .before .loop-test .left) (omega (arith, c .before .before .if2 .left)) _ (omega (arith, c .before .before .if2 .left)) _ (c .before .row-covers .ensures) (c .if3 .left)
+    among-gone _ _ (q .0) _ _ _ _ (q .2) (q .3) _ _ (c .before .before .before .before .loop .inv) (c .before .before .before .loop-test .left)
+    (omega (arith, c .before .before .if2 .left)) _ (omega (arith, c .before .before .if2 .left)) _ (c .before .row-covers .ensures) (c .if3 .left)
 
 pub row-among-spec : {M : Type 1} → statement M
 row-among-spec =

@@ -16,8 +16,8 @@ element-copy-out-first c = omega (arith, roles-few _ _ (c .before .pre .0))
 add-next : tie.Need-add-next
 add-next c = search needs
 
-cast-past : tie.Need-cast-past
-cast-past c = search needs
+cast-all : tie.Need-cast-all
+cast-all c = search needs
 
 cast-if1 : tie.Need-cast-if1
 cast-if1 c = search needs
@@ -51,7 +51,7 @@ row-by-spec =
     mul-first
     element-copy-out-first
     add-next
-    cast-past
+    cast-all
     cast-if1
     mul-past
     element-copy-out-past

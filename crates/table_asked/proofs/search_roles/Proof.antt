@@ -31,7 +31,8 @@ cast-t15 c = omega (arith, roles-few _ _ (c .before .before .before .before .bef
 
 returns : tie.Need-returns Inv-loop μ-loop
 returns c =
-    role-yes _ _ (c .before .before .before .before .before .before .pre .0) _ _ _ _ (c .before .before .before .before .loop .inv .1) _ (c .before .row-decides .ensures _ _ (c .before .before .row-at .ensures)) (c .if1 .taken)
+    role-yes _ _ (c .before .before .before .before .before .before .pre .0) _ _ _ _ (c .before .before .before .before .loop .inv .1) _
+    (c .before .row-decides .ensures _ _ (c .before .before .row-at .ensures)) (c .if1 .taken)
     (c .before .before .before .loop-test .taken)
 
 add-r : tie.Need-add-r Inv-loop μ-loop
@@ -43,7 +44,8 @@ loop-less c = search needs
 loop-again : tie.Need-loop-again Inv-loop μ-loop
 loop-again c = (
   omega arith,
-  role-no _ _ (c .before .before .before .before .before .before .pre .0) _ _ _ _ (c .before .before .before .before .loop .inv .1) _ (c .before .row-decides .ensures _ _ (c .before .before .row-at .ensures)) (c .if1 .left),
+  role-no _ _ (c .before .before .before .before .before .before .pre .0) _ _ _ _ (c .before .before .before .before .loop .inv .1) _
+      (c .before .row-decides .ensures _ _ (c .before .before .row-at .ensures)) (c .if1 .left),
 )
 
 returns-2 : tie.Need-returns-2 Inv-loop μ-loop

@@ -31,7 +31,8 @@ cast-t13 c = omega (arith, roles-few _ _ (c .before .before .before .before .bef
 
 returns : tie.Need-returns Inv-loop μ-loop
 returns c =
-    role-yes _ _ (c .before .before .before .before .before .before .before .pre .0) _ _ _ _ (c .before .before .before .before .loop .inv .1) _ (c .before .row-decides .ensures _ _ (c .before .before .row-by .ensures)) (c .if1 .taken)
+    role-yes _ _ (c .before .before .before .before .before .before .before .pre .0) _ _ _ _ (c .before .before .before .before .loop .inv .1) _
+    (c .before .row-decides .ensures _ _ (c .before .before .row-by .ensures)) (c .if1 .taken)
     (c .before .before .before .loop-test .taken)
 
 add-role : tie.Need-add-role Inv-loop μ-loop
@@ -43,12 +44,14 @@ loop-less c = search needs
 loop-again : tie.Need-loop-again Inv-loop μ-loop
 loop-again c = (
   omega arith,
-  role-no _ _ (c .before .before .before .before .before .before .before .pre .0) _ _ _ _ (c .before .before .before .before .loop .inv .1) _ (c .before .row-decides .ensures _ _ (c .before .before .row-by .ensures)) (c .if1 .left),
+  role-no _ _ (c .before .before .before .before .before .before .before .pre .0) _ _ _ _ (c .before .before .before .before .loop .inv .1) _
+      (c .before .row-decides .ensures _ _ (c .before .before .row-by .ensures)) (c .if1 .left),
 )
 
 returns-2 : tie.Need-returns-2 Inv-loop μ-loop
 returns-2 c =
-    let l = c .before in no-role _ _ (l .before .before .before .pre .0) _ _ _ _ (l .loop .inv .1) (le-antisymm (l .loop .inv .0) (c .loop-test .left))
+    let l = c .before in
+    no-role _ _ (l .before .before .before .pre .0) _ _ _ _ (l .loop .inv .1) (le-antisymm (l .loop .inv .0) (c .loop-test .left))
 
 pub search-starts-spec : {M : Type 1} → statement M
 search-starts-spec =
