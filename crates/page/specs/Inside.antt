@@ -4,7 +4,7 @@ use mathlib.Core.Path.{_≡_}
 use mathlib.Core.List.{List}
 use Rattle.rota.specs.Inside.{Located}
 use Rattle.table.specs.Inside.{Opened}
-use Rattle.table_asked.specs.Starts.{FirstRows}
+use Rattle.table_asked.specs.Starts.{Noted}
 use Rattle.lent.specs.declared.Kind.{Kind}
 use Rattle.lent.specs.declared.Kind.the-variants.{Rota, Table}
 use Rattle.page.specs.Page.{pageJudged}
@@ -15,7 +15,7 @@ use Rattle.page.specs.declared.Question.{Question}
 -- accepted bytes, and what answers questions to them
 abbrev pub Ready : Kind → List ℕ → Begun → Type 0
 Ready Rota s b = Located s (b .layout)
-Ready Table s b = Opened s (b .counts) × FirstRows s (b .starts)
+Ready Table s b = Opened s (b .counts) × Noted s (b .counts) (b .starts)
 
 -- how a page of n records begins: with its refusal; nothing is to be answered where it has one, else every record
 pub record Begins (k : Kind) (n : ℕ) (s : List ℕ) (b : Begun) : Type 0 where

@@ -30,7 +30,7 @@ pub struct Question {
 }
 
 // How a page begins: a refusal's number, or 0; how many questions are to be answered, none where anything is refused; and what answers them: where a
-// rota has its parts, or a table's counts with where each role's rows begin.
+// rota has its parts, or a table's counts, with where each role's rows begin if these are searched.
 pub struct Begun {
     pub refusal: u32,
     pub count: usize,
@@ -133,7 +133,7 @@ pub fn begin_table(n: usize, s: &[u8]) -> Begun
             n,
             no_layout(),
             counts,
-            table_asked::first_rows(s, counts),
+            table_asked::note_starts(s, counts),
         ),
     }
 }

@@ -10,7 +10,7 @@ ghost use Rattle.table.specs.TableBytes.{cycleOf, rowAtByte, tableOf};
 ghost use Rattle.table.specs.TableRefusals.{tableJudged};
 ghost use Rattle.table.specs.Inside.{Opened};
 ghost use Rattle.rows.specs.Rows.{rowFor};
-ghost use Rattle.table_asked.specs.Starts.{RowsBelow, BeginsAt, FirstRows, hasBegun, Decides};
+ghost use Rattle.table_asked.specs.Starts.{fewRows, RowsBelow, BeginsAt, FirstRows, Noted, hasBegun, Decides};
 use policy::Answer;
 use table::Counts;
 use table::TableAnswer;
@@ -48,12 +48,19 @@ fn search_roles(s: &[u8], n: Counts, u: u32, p: u32, t: u32, x: u32) -> Answer
     Answer::No
 }
 
-// The answer of an accepted table. A few rows of each role are quicker passed than searched.
+// Whether the roles have so few rows, on average, that these are quicker passed than searched.
+fn few_rows(n: Counts) -> bool
+    ensures { λ r. ⌜ r ≡ fewRows n ⌝ }
+{
+    n.rows / 16 < n.roles
+}
+
+// The answer of an accepted table.
 pub fn answer_in(s: &[u8], n: Counts, u: u32, p: u32, t: u32) -> Answer
     requires { ⌜ Opened (now s) n × (u < n .users) × (p < n .permissions) ⌝ }
     ensures { λ r. ⌜ answerGiven r ≡ given (answer (tableOf (now (s .entry))) u p t) ⌝ }
 {
-    if n.rows / 16 < n.roles {
+    if few_rows(n) {
         return table_answers::answer_in(s, n, u, p, t);
     }
     search_roles(s, n, u, p, t, minutes::phase(n.cycle, t))
@@ -95,7 +102,7 @@ fn first_row(s: &[u8], n: Counts, role: usize, from: usize) -> usize
 }
 
 // For each role, where its rows begin. Rows go by role, so that each search begins where the last one ended.
-pub fn first_rows(s: &[u8], n: Counts) -> [u64; 32]
+fn first_rows(s: &[u8], n: Counts) -> [u64; 32]
     requires { ⌜ Opened (now s) n ⌝ }
     ensures { λ r. ⌜ FirstRows (now (s .entry)) r ⌝ }
 {
@@ -109,6 +116,17 @@ pub fn first_rows(s: &[u8], n: Counts) -> [u64; 32]
         k += 1;
     }
     starts
+}
+
+// What is found out once for many questions: where each role's rows begin, unless they are passed.
+pub fn note_starts(s: &[u8], n: Counts) -> [u64; 32]
+    requires { ⌜ Opened (now s) n ⌝ }
+    ensures { λ r. ⌜ Noted (now (s .entry)) n r ⌝ }
+{
+    if few_rows(n) {
+        return [0; 32];
+    }
+    first_rows(s, n)
 }
 
 // Whether the row at `at` comes before minute t, whose phase is x, or covers it: its end is not after t, or it has begun and its cell starts at or
@@ -190,10 +208,10 @@ fn search_starts(s: &[u8], n: Counts, starts: &[u64; 32], u: u32, p: u32, t: u32
 // The answer of an accepted table, where each role's rows begin at `starts`: quicker than a search without them, and worth finding them for some
 // questions to one table.
 pub fn answer_by(s: &[u8], n: Counts, starts: &[u64; 32], u: u32, p: u32, t: u32) -> Answer
-    requires { ⌜ Opened (now s) n × (u < n .users) × (p < n .permissions) × FirstRows (now s) (now starts) ⌝ }
+    requires { ⌜ Opened (now s) n × (u < n .users) × (p < n .permissions) × Noted (now s) n (now starts) ⌝ }
     ensures { λ r. ⌜ answerGiven r ≡ given (answer (tableOf (now (s .entry))) u p t) ⌝ }
 {
-    if n.rows / 16 < n.roles {
+    if few_rows(n) {
         return table_answers::answer_in(s, n, u, p, t);
     }
     search_starts(s, n, starts, u, p, t, minutes::phase(n.cycle, t))
@@ -201,7 +219,7 @@ pub fn answer_by(s: &[u8], n: Counts, starts: &[u64; 32], u: u32, p: u32, t: u32
 
 // One question to an accepted table, where each role's rows begin at `starts`: 33, 34, 35, or the answer.
 pub fn question_by(s: &[u8], n: Counts, starts: &[u64; 32], u: u32, p: u32, t: u32) -> Answer
-    requires { ⌜ Opened (now s) n × FirstRows (now s) (now starts) ⌝ }
+    requires { ⌜ Opened (now s) n × Noted (now s) n (now starts) ⌝ }
     ensures { λ r. ⌜ answerGiven r ≡ question (tableJudged (now (s .entry))) (policyOf (tableOf (now (s .entry)))) u p t ⌝ }
 {
     let bad = policy::judge_arguments(n.users, n.permissions, u, p, t);

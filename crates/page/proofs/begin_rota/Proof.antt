@@ -1,8 +1,7 @@
-use mathlib.Core.Path.{sym, ap, subst, _∙_}
+use mathlib.Core.Path.{sym, ap, _∙_}
 use borrow.Author.Needs.{needs}
 use Rattle.lent.specs.declared.Kind.the-variants.{Rota}
-use Rattle.rota.specs.Inside.{Located, layoutGiven}
-use Rattle.rota.specs.declared.Layout.{Layout}
+use Rattle.rota.specs.Inside.{layoutGiven}
 use Rattle.rota.proofs.LocatedLaws.{located-by}
 use Rattle.rota.proofs.ReadLaws.{not-located}
 use Rattle.page.proofs.PageLaws.{list-refused, bytes-refused, begun}
@@ -49,7 +48,7 @@ returns-3 c =
     let s = j .before .before .before .args .s .now in
     let w = located-by s _ (sym (ap layoutGiven (c .before .before .before .layout .given .1)) ∙ c .before .before .before .before .before .locate .ensures) in
     let a = c .accepted .ensures in
-    begun Rota _ _ _ _ (j .before .is-long .ensures) (j .if1 .left) (w .accepted) (subst (λ (l : Layout). Located s l) (sym (a .2)) w) (a .0) (a .1)
+    begun Rota _ _ _ _ (j .before .is-long .ensures) (j .if1 .left) (w .accepted) (rw (a .2) w) (a .0) (a .1)
 
 pub begin-rota-spec : {M : Type 1} → statement M
 begin-rota-spec =

@@ -1,13 +1,8 @@
-use Prim.Native.Nat.{ℕ}
-use mathlib.Core.Path.{sym, ap, subst, _∙_}
-use mathlib.Core.List.{List}
+use mathlib.Core.Path.{sym, ap, _∙_}
 use borrow.Author.Needs.{needs}
 use Rattle.lent.specs.declared.Kind.the-variants.{Table}
 use Rattle.table.specs.Answers.{tableGiven}
-use Rattle.table.specs.Inside.{Opened}
-use Rattle.table.specs.declared.Counts.{Counts}
 use Rattle.table_reader.proofs.ReadLaws.{closed, opened}
-use Rattle.table_asked.specs.Starts.{FirstRows}
 use Rattle.page.proofs.PageLaws.{list-refused, bytes-refused, begun}
 use Rattle.page.proofs.begin_table.Statement.{statement}
 use Rattle.page.proofs.begin_table.Tie as tie
@@ -36,8 +31,8 @@ enum-known-counts c = search needs
 no-layout-requires : tie.Need-no-layout-requires
 no-layout-requires c κs = search needs
 
-first-rows-requires : tie.Need-first-rows-requires
-first-rows-requires c κs = opened _ _ (sym (ap tableGiven (c .before .before .counts .given .1)) ∙ c .before .before .before .before .read .ensures)
+note-starts-requires : tie.Need-note-starts-requires
+note-starts-requires c κs = opened _ _ (sym (ap tableGiven (c .before .before .counts .given .1)) ∙ c .before .before .before .before .read .ensures)
 
 accepted-requires : tie.Need-accepted-requires
 accepted-requires c κs = search needs
@@ -56,7 +51,7 @@ returns-3 c =
     let o = opened s _ (sym (ap tableGiven (c .before .before .before .before .counts .given .1)) ∙ c .before .before .before .before .before .before .read .ensures) in
     let a = c .accepted .ensures in
     begun Table _ _ _ _ (j .before .is-long .ensures) (j .if1 .left) (o .clear)
-    (subst (λ (n : Counts). Opened s n) (sym (a .3)) o, subst (λ (l : List ℕ). FirstRows s l) (sym (a .4)) (c .before .first-rows .ensures)) (a .0) (a .1)
+    (rw (a .3) o, rw (a .3, a .4) (c .before .note-starts .ensures)) (a .0) (a .1)
 
 pub begin-table-spec : {M : Type 1} → statement M
 begin-table-spec =
@@ -70,7 +65,7 @@ begin-table-spec =
     refused-requires-2
     enum-known-counts
     no-layout-requires
-    first-rows-requires
+    note-starts-requires
     accepted-requires
     returns-2
     returns-3)
