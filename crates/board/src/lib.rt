@@ -125,13 +125,13 @@ fn search_rows(s: &[u8], n: Counts, t: u32, x: u32) -> Board
     }
 }
 
-// The board of an accepted table. A few rows of each role are quicker passed than searched.
+// The board of an accepted table.
 fn board_in(s: &[u8], n: Counts, t: u32) -> Board
     requires { ⌜ Opened (now s) n ⌝ }
     ensures { λ r. ⌜ r ≡ boardTold (given (shownAt (tableOf (now (s .entry))) t)) ⌝ }
 {
     let x = minutes::phase(n.cycle, t);
-    if n.rows / 16 < n.roles {
+    if rows::few_rows(n) {
         return pass_rows(s, n, t, x);
     }
     search_rows(s, n, t, x)

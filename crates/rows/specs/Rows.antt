@@ -1,15 +1,16 @@
 -- The row of a source role that covers a minute, and where the other rows stand then: what the steps of the search promise each other, which no reader
 -- has to believe.
-use Prim.Native.Nat.{ℕ, _+_, _%_, _≤_, _<_}
+use Prim.Native.Nat.{ℕ, _+_, _/_, _%_, _≤_, _<_}
 use mathlib.Core.Path.{_≡_}
 use mathlib.Core.Logic.{_⊎_}
 use mathlib.Core.Bool.{Bool, true, _&&_}
 use mathlib.Core.List.{List}
-use lib.Dec.{eqb}
+use lib.Dec.{eqb, ltb}
 use Rattle.ground.specs.From.{firstFrom}
 use Rattle.minutes.specs.Minutes.{Window, covers}
 use Rattle.table.specs.TableBytes.{cycleOf, rowsOf, rowOf}
 use Rattle.table.specs.TableRefusals.{sourceOf}
+use Rattle.table.specs.declared.Counts.{Counts}
 
 -- row i is of role r and covers minute t
 abbrev pub coversFor : List ℕ → ℕ → ℕ → ℕ → Bool
@@ -31,3 +32,7 @@ pub record StageIs (s : List ℕ) (r t i n : ℕ) : Type 0 where
   pub behind : n ≡ 0 → Behind (sourceOf s i) (rowOf s i .window) r t (t % cycleOf s)
   pub covering : n ≡ 1 → coversFor s r t i ≡ true
   pub ahead : 1 < n → Ahead (sourceOf s i) (rowOf s i .window) r t (t % cycleOf s)
+
+-- the roles of a table have fewer than 16 rows on average, which are passed and not searched
+abbrev pub fewRows : Counts → Bool
+fewRows n = ltb (n .rows / 16) (n .roles)

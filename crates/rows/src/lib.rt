@@ -3,7 +3,7 @@ ghost use mathlib.Core.Path.{_≡_};
 ghost use Prim.Native.Nat.{_%_, _≤_, _<_};
 ghost use Rattle.table.specs.TableBytes.{cycleOf};
 ghost use Rattle.table.specs.Inside.{Opened};
-ghost use Rattle.rows.specs.Rows.{rowFor, StageIs};
+ghost use Rattle.rows.specs.Rows.{rowFor, StageIs, fewRows};
 use table::Counts;
 
 // Where row i stands at minute t, whose phase is x, as to a role: 0 behind, 1 of the role and covering the minute, 2 ahead.
@@ -101,4 +101,11 @@ pub fn row_at(s: &[u8], n: Counts, role: usize, guess: usize, t: u32, x: u32) ->
         step = wider(step);
     }
     Found { row: rows, next: a }
+}
+
+// Whether the roles have so few rows, on average, that these are quicker passed than searched.
+pub fn few_rows(n: Counts) -> bool
+    ensures { λ r. ⌜ r ≡ fewRows n ⌝ }
+{
+    n.rows / 16 < n.roles
 }

@@ -1,16 +1,16 @@
 -- Where the rows of each role begin, and what a row says of a minute: what the steps promise each other, which no reader has to believe.
-use Prim.Native.Nat.{ℕ, _/_, _≤_, _<_}
+use Prim.Native.Nat.{ℕ, _≤_, _<_}
 use mathlib.Core.Path.{_≡_}
 use mathlib.Core.Bool.{Bool, false, _&&_, _||_}
 use mathlib.Core.List.{List}
-use lib.Dec.{leb, ltb}
+use lib.Dec.{leb}
 use lib.ListN.{length, getD}
 use Rattle.minutes.specs.Minutes.{Window}
 use Rattle.table.specs.Table.{through}
 use Rattle.table.specs.TableBytes.{rolesOf, rowsOf, tableOf}
 use Rattle.table.specs.TableRefusals.{sourceOf}
 use Rattle.table.specs.declared.Counts.{Counts}
-use Rattle.rows.specs.Rows.{rowFor}
+use Rattle.rows.specs.Rows.{rowFor, fewRows}
 
 -- the first `a` rows are of roles below r
 abbrev pub RowsBelow : List ℕ → ℕ → ℕ → Type 0
@@ -29,10 +29,6 @@ pub record FirstOf (s : List ℕ) (n : ℕ) (starts : List ℕ) : Type 0 where
 
 abbrev pub FirstRows : List ℕ → List ℕ → Type 0
 FirstRows s starts = FirstOf s (rolesOf s) starts
-
--- the roles of a table have fewer than 16 rows on average, which are passed and not searched
-abbrev pub fewRows : Counts → Bool
-fewRows n = ltb (n .rows / 16) (n .roles)
 
 -- what is found out once for many questions
 abbrev pub Noted : List ℕ → Counts → List ℕ → Type 0

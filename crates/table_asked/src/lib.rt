@@ -10,7 +10,7 @@ ghost use Rattle.table.specs.TableBytes.{cycleOf, rowAtByte, tableOf};
 ghost use Rattle.table.specs.TableRefusals.{tableJudged};
 ghost use Rattle.table.specs.Inside.{Opened};
 ghost use Rattle.rows.specs.Rows.{rowFor};
-ghost use Rattle.table_asked.specs.Starts.{fewRows, RowsBelow, BeginsAt, FirstRows, Noted, hasBegun, Decides};
+ghost use Rattle.table_asked.specs.Starts.{RowsBelow, BeginsAt, FirstRows, Noted, hasBegun, Decides};
 use policy::Answer;
 use table::Counts;
 use table::TableAnswer;
@@ -48,19 +48,12 @@ fn search_roles(s: &[u8], n: Counts, u: u32, p: u32, t: u32, x: u32) -> Answer
     Answer::No
 }
 
-// Whether the roles have so few rows, on average, that these are quicker passed than searched.
-fn few_rows(n: Counts) -> bool
-    ensures { λ r. ⌜ r ≡ fewRows n ⌝ }
-{
-    n.rows / 16 < n.roles
-}
-
 // The answer of an accepted table.
 pub fn answer_in(s: &[u8], n: Counts, u: u32, p: u32, t: u32) -> Answer
     requires { ⌜ Opened (now s) n × (u < n .users) × (p < n .permissions) ⌝ }
     ensures { λ r. ⌜ answerGiven r ≡ given (answer (tableOf (now (s .entry))) u p t) ⌝ }
 {
-    if few_rows(n) {
+    if rows::few_rows(n) {
         return table_answers::answer_in(s, n, u, p, t);
     }
     search_roles(s, n, u, p, t, minutes::phase(n.cycle, t))
@@ -123,7 +116,7 @@ pub fn note_starts(s: &[u8], n: Counts) -> [u64; 32]
     requires { ⌜ Opened (now s) n ⌝ }
     ensures { λ r. ⌜ Noted (now (s .entry)) n r ⌝ }
 {
-    if few_rows(n) {
+    if rows::few_rows(n) {
         return [0; 32];
     }
     first_rows(s, n)
@@ -211,7 +204,7 @@ pub fn answer_by(s: &[u8], n: Counts, starts: &[u64; 32], u: u32, p: u32, t: u32
     requires { ⌜ Opened (now s) n × (u < n .users) × (p < n .permissions) × Noted (now s) n (now starts) ⌝ }
     ensures { λ r. ⌜ answerGiven r ≡ given (answer (tableOf (now (s .entry))) u p t) ⌝ }
 {
-    if few_rows(n) {
+    if rows::few_rows(n) {
         return table_answers::answer_in(s, n, u, p, t);
     }
     search_starts(s, n, starts, u, p, t, minutes::phase(n.cycle, t))

@@ -202,12 +202,12 @@ pub fn held_near(
     h
 }
 
-// Everyone who holds a permission at minute t. A few rows of each role are quicker passed than searched.
+// Everyone who holds a permission at minute t.
 pub fn holders_at(s: &[u8], n: Counts, t: u32) -> u64
     requires { ⌜ Opened (now s) n × (t < E) ⌝ }
     ensures { λ r. ⌜ r ≡ holdersAt (policyOf (tableOf (now (s .entry)))) t ⌝ }
 {
-    if n.rows / 16 < n.roles {
+    if rows::few_rows(n) {
         return table_answers::holders_in(s, n, t);
     }
     let mut places = [18446744073709551615; 32];
