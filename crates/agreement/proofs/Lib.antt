@@ -6,3 +6,4 @@ pub mod NextUseAgreed
 pub mod Sleeping
 pub mod Touching
 pub mod BoardAgreed
+pub mod PageAgreed

@@ -3,9 +3,10 @@
 //! comes to, and stores the worst of all where it is told to.
 //!
 //! What is timed is one of: rewrite, into 40 MB; refuse, the same into 64 KiB, where that gives
-//! 20; read, question, rota-minute, rota-advance, on the rota; table-read, table-question,
-//! table-next, table-board, table-minute, table-advance, on its table. Everyone is open at first,
-//! and an advance is of one minute, or over 400 years.
+//! 20; read, question, rota-page, rota-minute, rota-advance, on the rota; table-read,
+//! table-question, table-page, table-next, table-board, table-minute, table-advance, on its table. A
+//! page has 256 questions, each for a minute of its own. Everyone is open at first, and an advance is
+//! of one minute, or over 400 years.
 
 use std::hint::black_box;
 use std::time::{Duration, Instant};
@@ -15,6 +16,7 @@ use cases::random::Random;
 use cases::worst::{self, Cut, jumps};
 use comparison::ffi;
 use reference::END;
+use reference::page::{LIMIT, Question};
 use reference::rota::Rota;
 use reference::service::{Call, State};
 
@@ -34,6 +36,16 @@ fn questions<T>(ask: impl Fn(u32, u32, u32) -> T) {
     for (i, minute) in (0..).zip(minutes()) {
         black_box(ask(9 * i, 9 * i, minute));
     }
+}
+
+fn page() -> Vec<Question> {
+    let question = |i: u32| Question {
+        user: i % 64,
+        permission: i / 4,
+        minute: END / 257 * i + 5_003 * i,
+        ..Question::default()
+    };
+    (0..LIMIT as u32).map(question).collect()
 }
 
 fn advances(call: impl Fn(State, Call) -> ffi::service::Stepped) {
@@ -108,11 +120,19 @@ impl Search {
             "question" => {
                 quickest(times, || questions(|u, p, t| ffi::rota::question(rota, u, p, t)))
             }
+            "rota-page" => {
+                let mut page = page();
+                quickest(times, || ffi::rota::page(rota, &mut page))
+            }
             "rota-minute" => quickest(times, || advances(on_rota)),
             "rota-advance" => quickest(times, || jump(on_rota)),
             "table-read" => quickest(times, || ffi::table::read(table)),
             "table-question" => {
                 quickest(times, || questions(|u, p, t| ffi::table::question(table, u, p, t)))
+            }
+            "table-page" => {
+                let mut page = page();
+                quickest(times, || ffi::table::page(table, &mut page))
             }
             "table-next" => {
                 quickest(times, || questions(|u, p, m| ffi::table::next_use(table, u, p, m)))

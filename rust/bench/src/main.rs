@@ -12,6 +12,7 @@ use std::hint::black_box;
 
 use cases::random::Random;
 use comparison::ffi;
+use reference::page::Question as Record;
 use reference::rewriting::Written;
 use reference::service::{Call, Lent, State};
 use reference::{END, Refusal};
@@ -99,6 +100,22 @@ fn in_words(seconds: f64) -> String {
 const PAGES: [(&str, usize, bool); 3] =
     [("page of 1", 1, true), ("page of 256", 256, false), ("page of 256, one minute", 256, true)];
 
+fn pages(
+    kind: &str,
+    input: &Input,
+    report: &mut Report,
+    proved: impl Fn(&mut [Record]) -> u32,
+    quick: impl Fn(&mut [Record]) -> Result<(), Refusal>,
+) {
+    for (operation, count, is_one_minute) in PAGES {
+        let mut ours = input.page(count, is_one_minute);
+        let mut theirs = ours.clone();
+        let times = time(|_| proved(&mut ours), |_| quick(&mut theirs));
+        assert!(ours == theirs, "the two pages differ");
+        report.print(&format!("{kind} {operation}"), input.name, times);
+    }
+}
+
 fn rota(input: &Input, report: &mut Report) {
     let (name, Some(bytes)) = (input.name, input.rota()) else { return };
     let times = time(|_| ffi::rota::read(black_box(bytes)), |_| Rota::read(black_box(bytes)));
@@ -114,16 +131,8 @@ fn rota(input: &Input, report: &mut Report) {
         },
     );
     report.print("rota question", name, times);
-    for (operation, count, is_one_minute) in PAGES {
-        let (mut ours, mut theirs) =
-            (input.page(count, is_one_minute), input.page(count, is_one_minute));
-        let times = time(
-            |_| ffi::rota::page(black_box(bytes), &mut ours),
-            |_| page(|| Rota::read(black_box(bytes)), &mut theirs),
-        );
-        assert!(ours == theirs, "the two pages differ");
-        report.print(&format!("rota {operation}"), name, times);
-    }
+    let quick = |questions: &mut [Record]| page(|| Rota::read(black_box(bytes)), questions);
+    pages("rota", input, report, |questions| ffi::rota::page(black_box(bytes), questions), quick);
     let minute = |i: usize| input.question(i).minute;
     let times = time(
         |i| ffi::rota::holders(black_box(bytes), minute(i)),
@@ -148,16 +157,8 @@ fn table(input: &Input, report: &mut Report) {
         },
     );
     report.print("table question", name, times);
-    for (operation, count, is_one_minute) in PAGES {
-        let (mut ours, mut theirs) =
-            (input.page(count, is_one_minute), input.page(count, is_one_minute));
-        let times = time(
-            |_| ffi::table::page(black_box(bytes), &mut ours),
-            |_| page(|| Table::read(black_box(bytes)), &mut theirs),
-        );
-        assert!(ours == theirs, "the two pages differ");
-        report.print(&format!("table {operation}"), name, times);
-    }
+    let quick = |questions: &mut [Record]| page(|| Table::read(black_box(bytes)), questions);
+    pages("table", input, report, |questions| ffi::table::page(black_box(bytes), questions), quick);
     let minute = |i: usize| input.question(i).minute;
     let times = time(
         |i| ffi::table::holders(black_box(bytes), minute(i)),

@@ -99,7 +99,9 @@ fn pages_on_rotas() {
 #[test]
 fn pages_on_tables() {
     let reached = [0].into_iter().chain(21..=28).chain(33..=35).chain([51]);
-    tallied("pages on tables", 6_000, page::on_tables).reached(reached).also(&ALSO);
+    let tally = tallied("pages on tables", 6_000, page::on_tables);
+    tally.reached(reached).also(&ALSO);
+    tally.also(&["many rows", "few rows"]);
 }
 
 #[test]

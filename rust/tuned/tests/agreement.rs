@@ -116,8 +116,9 @@ fn any_rota(random: &mut Random) -> Rota {
 }
 
 fn any_table(random: &mut Random) -> Table {
-    match random.below(6) {
+    match random.below(7) {
         0 => generate::table(random),
+        6 => generate::many_rows_table(random),
         1 => {
             let rota = generate::touching_rota(random);
             generate::table_of_rota(random, &rota)

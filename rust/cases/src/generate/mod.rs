@@ -15,7 +15,7 @@ pub use fine::{
     Sets, cut_hours, fine_rota, longest_first, most_rows_rota, most_sets_cuts, most_sets_rota,
 };
 pub use hours::{hours, hours_fault, room};
-pub use relay::{crowded_table, dense_table, relay_rota, relay_table};
+pub use relay::{crowded_table, dense_table, many_rows_table, relay_rota, relay_table};
 pub use rota::{
     EDGE_SIZES, LIMITS, Sizes, damaged_rota, edge_sizes, granting_rota, rota, rota_minute, rota_of,
     small_rota, touching_rota, with_unused_hours,

@@ -167,6 +167,48 @@ pub fn crowded_table(random: &mut Random) -> Table {
     dense_table_of(random, cycle, users, permissions, roles)
 }
 
+/// A table whose roles have many rows on average, so that these are searched and not passed. Some
+/// roles have few, or none.
+pub fn many_rows_table(random: &mut Random) -> Table {
+    let cycle = random.pick(&[30, 100, 10_080, 40_320]);
+    let [users, permissions] = [(); 2].map(|()| random.pick(&[1, 5, 64]));
+    let roles = random.pick(&[1, 2, 5, 32]);
+    let (mut derived, mut rows) = (Vec::new(), Vec::new());
+    for role in 0..roles {
+        let first = derived.len() as u32;
+        derived.extend(entries(random, role as u8, users, permissions));
+        let cuts = random.pick(&[0, 2, 29, 29, 30]);
+        for two in dates(random, cycle, 4).windows(2) {
+            for cell in distinct(random, cuts, cycle.into()).windows(2) {
+                if random.one_in(8) {
+                    continue;
+                }
+                rows.push(table::Row {
+                    derived: random.between(first, derived.len() as u32 - 1),
+                    begin: two[0],
+                    end: two[1],
+                    offset: cell[0] as u16,
+                    length: (cell[1] - cell[0]) as u16,
+                });
+            }
+        }
+    }
+    let (users, permissions) = (users as u8, permissions as u8);
+    Table { cycle, users, permissions, roles: roles as u16, derived, rows }
+}
+
+/// Some derived roles of a role, with nearly all users.
+fn entries(random: &mut Random, source: u8, users: u32, permissions: u32) -> Vec<DerivedRole> {
+    let count = random.between(1, 3);
+    let entry = |_| {
+        let most = (random.bits() | random.bits()) & set::below(users);
+        let users = set::with(most, random.below(users));
+        let permissions = if permissions == 1 { 1 } else { some_set(random, permissions) };
+        DerivedRole { source, users, permissions }
+    };
+    (0..count).map(entry).collect()
+}
+
 fn dense_table_of(
     random: &mut Random,
     cycle: u16,
@@ -177,12 +219,7 @@ fn dense_table_of(
     let (mut derived, mut rows) = (Vec::new(), Vec::new());
     for role in 0..roles {
         let first = derived.len() as u32;
-        for _ in 0..random.between(1, 3) {
-            let most = (random.bits() | random.bits()) & set::below(users);
-            let users = set::with(most, random.below(users));
-            let permissions = if permissions == 1 { 1 } else { some_set(random, permissions) };
-            derived.push(DerivedRole { source: role as u8, users, permissions });
-        }
+        derived.extend(entries(random, role as u8, users, permissions));
         let seldom = random.pick(&[0, 3, 10]);
         for two in dates(random, cycle, 6).windows(2) {
             let hole = hole(random, cycle);

@@ -91,14 +91,17 @@ pub fn on_rotas(case: &mut Case, tally: &mut Tally) {
 }
 
 pub fn on_tables(case: &mut Case, tally: &mut Tally) {
-    let table = if case.random.one_in(3) {
-        generate::crowded_table(&mut case.random)
-    } else {
-        any_table(&mut case.random)
+    let table = match case.random.below(3) {
+        0 => generate::crowded_table(&mut case.random),
+        1 => generate::many_rows_table(&mut case.random),
+        _ => any_table(&mut case.random),
     };
     let lent = if case.random.one_in(3) {
         Lent::<Table>::new(generate::damaged_table(&mut case.random, &table))
     } else {
+        // Rows are searched where a role has many, and passed where it has few.
+        let has_many = table.rows.len() / 16 >= usize::from(table.roles);
+        tally.count(if has_many { "many rows" } else { "few rows" });
         Lent::new(table.encode())
     };
     guarded(case, tally, &lent, &table);

@@ -115,7 +115,10 @@ pub fn table_by_hand(random: &mut Random) -> Table {
 
 /// Tables that no rewriting makes: repeated entries, entries without rows, other numberings.
 pub fn by_hand(case: &mut Case, tally: &mut Tally) {
-    let table = table_by_hand(&mut case.random);
+    let table = match case.random.below(5) {
+        0 => generate::many_rows_table(&mut case.random),
+        _ => table_by_hand(&mut case.random),
+    };
     let lent = Lent::new(table.encode());
     assert!(lent.parsed.is_ok(), "the builder makes only accepted tables");
     compare_all(case, tally, &lent, &table, 6);
