@@ -1,5 +1,5 @@
-// A page of questions: each record's place receives what the single question gives. The bytes are judged once, before any question; the list of records
-// is lent to the exported functions (crate softlode), whose loop is over these steps by value.
+// A page of questions: each record's place receives what the single question gives. The bytes are judged once, before any question; the list of
+// records is lent to the exported functions (crate softlode), whose loop is over these steps by value.
 ghost use mathlib.Core.Path.{_≡_};
 ghost use lib.Dec.{ltb};
 ghost use Rattle.policy.specs.Policy.{answerGiven};
