@@ -1,4 +1,5 @@
 use mathlib.Core.Path.{sym, _∙_, ap}
+use native.Mathlib.Omega.{arith}
 use borrow.Author.Needs.{needs}
 use Rattle.minutes.specs.Minutes.{E}
 use Rattle.table.specs.Answers.{tableGiven}
@@ -26,7 +27,7 @@ returns : tie.Need-returns
 unfolding E
 returns c =
     let o = opened _ _ (sym (ap tableGiven (c .before .before .before .n .given .1)) ∙ c .before .before .before .before .before .read .ensures) in
-    c .refused2 .ensures ∙ told-late _ _ (o .clear) (c .before .if1 .taken)
+    c .refused2 .ensures ∙ told-late _ _ (o .clear) (omega (arith, c .before .if1 .taken))
 
 board-in-requires : tie.Need-board-in-requires
 board-in-requires c κs = opened _ _ (sym (ap tableGiven (c .before .before .n .given .1)) ∙ c .before .before .before .before .read .ensures)
@@ -40,7 +41,7 @@ returns-3 : tie.Need-returns-3
 unfolding E
 returns-3 c =
     let o = opened _ _ (sym (ap tableGiven (c .before .before .before .n .given .1)) ∙ c .before .before .before .before .before .read .ensures) in
-    c .board-in .ensures ∙ told-board _ _ (o .clear) (c .before .if1 .left)
+    c .board-in .ensures ∙ told-board _ _ (o .clear) (omega (arith, c .before .if1 .left))
 
 pub board-at-spec : {M : Type 1} → statement M
 board-at-spec =
