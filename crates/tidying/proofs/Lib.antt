@@ -1,1 +1,3 @@
 pub mod KeyLaws
+pub mod OrderLaws
+pub mod TidyLaws
