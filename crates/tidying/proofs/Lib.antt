@@ -1,0 +1,4 @@
+pub mod KeyLaws
+pub mod OrderLaws
+pub mod FewerLaws
+pub mod TidyLaws
