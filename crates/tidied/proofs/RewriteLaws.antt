@@ -5,7 +5,7 @@
 --     tidy-unjoined, tidy-rewrite                        the table before neighbouring rows that touch are joined, and after
 -- Assumes nothing.
 use Prim.Native.Nat.{ℕ, zero, suc}
-use mathlib.Core.Path.{_≡_, refl, ap, _∙_}
+use mathlib.Core.Path.{_≡_, refl}
 use mathlib.Core.Bool.{not, _&&_}
 use mathlib.Core.Option.{Option, none, some}
 use mathlib.Core.List.{List, [], _∷_, _++_, map}
@@ -36,8 +36,7 @@ module _ (ρ : Rota) (w : RotaWell ρ) where
 
   pub tidy-active : (r t : ℕ) → active (tidy ρ) r t ≡ active ρ r t
   unfolding active
-  tidy-active r t =
-      λ i. tidy-enabled ρ r t i && not (eqb (tidy-users-at r t i) 0) && not (eqb (tidy-permissions-at r t i) 0)
+  tidy-active r t = λ i. tidy-enabled ρ r t i && not (eqb (tidy-users-at r t i) 0) && not (eqb (tidy-permissions-at r t i) 0)
 
   derived-there : (r : ℕ) (o : Option ℕ) → derivedThere (tidy ρ) r o ≡ derivedThere ρ r o
   derived-there r none = refl
@@ -45,9 +44,7 @@ module _ (ρ : Rota) (w : RotaWell ρ) where
 
   pub tidy-kept-as : (r : ℕ) (f : Window) → keptAs (tidy ρ) r f ≡ keptAs ρ r f
   unfolding tidy keptAs
-  tidy-kept-as r f =
-      derived-there r (lowestBelow E (λ t. covers (ρ .cycle) f t && active (tidy ρ) r t))
-      ∙ (λ i. derivedThere ρ r (lowestBelow E (λ t. covers (ρ .cycle) f t && tidy-active r t i)))
+  tidy-kept-as r f = λ i. derived-there r (lowestBelow E (λ t. covers (ρ .cycle) f t && tidy-active r t i)) i
 
   kept-of : (r : ℕ) (fs : List Window) → keptOf (tidy ρ) r fs ≡ keptOf ρ r fs
   unfolding keptOf
@@ -57,7 +54,7 @@ module _ (ρ : Rota) (w : RotaWell ρ) where
   kept-from : (n r : ℕ) → keptFrom (tidy ρ) n r ≡ keptFrom ρ n r
   unfolding keptFrom
   kept-from zero r = refl
-  kept-from (suc n) r = (λ i. keptOf (tidy ρ) r (tidy-fields ρ i) ++ kept-from n (suc r) i) ∙ (λ i. kept-of r (fields ρ) i ++ keptFrom ρ n (suc r))
+  kept-from (suc n) r = λ i. kept-of r (tidy-fields ρ i) i ++ kept-from n (suc r) i
 
   pub tidy-kept : kept (tidy ρ) ≡ kept ρ
   unfolding tidy kept
