@@ -2,3 +2,4 @@ pub mod KeyLaws
 pub mod OrderLaws
 pub mod FewerLaws
 pub mod TidyLaws
+pub mod RotaLaws

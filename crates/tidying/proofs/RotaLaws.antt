@@ -1,0 +1,86 @@
+-- A rota with its rows in order, each once.
+--     tidy-one                                    rotas that differ in the order and the repeats of their rows alone become one rota
+--     tidy-rota-well                              a rota that keeps the layout still keeps it
+--     tidy-enabled, tidy-user, tidy-permission    its roles are enabled when they were, and have the users and the permissions that they had
+--     tidy-through, tidy-answer                   so each role lets through what it did, and every answer is the same
+--     tidy-twice                                  done again, it makes no difference
+-- Assumes nothing.
+use Prim.Native.Nat.{ℕ, _≤_}
+use mathlib.Core.Path.{_≡_, refl}
+use mathlib.Core.Bool.{_&&_}
+use native.Mathlib.Omega.{arith}
+use lib.ListN.{length}
+use Rattle.ground.proofs.SearchLaws.{lowest-same}
+use Rattle.rota.specs.Rota.{Rota, enabled, assigned, hasUser, hasPermission, through, answer}
+use Rattle.rota.specs.RotaWell.{RotaWell}
+use Rattle.tidying.specs.Tidy.{there, tidy}
+use Rattle.tidying.proofs.TidyLaws.{tidy-same, tidy-takes, tidy-well, tidy-assigned, tidy-fewer}
+
+pub tidy-one : (ρ σ : Rota) → ρ .cycle ≡ σ .cycle → ρ .users ≡ σ .users → ρ .permissions ≡ σ .permissions → ρ .hours ≡ σ .hours
+    → ρ .roles ≡ σ .roles → ((k : ℕ) → there (ρ .user-rows) k ≡ there (σ .user-rows) k)
+    → ((k : ℕ) → there (ρ .permission-rows) k ≡ there (σ .permission-rows) k) → tidy ρ ≡ tidy σ
+unfolding tidy
+tidy-one ρ σ c u p h r us ps =
+    let vs = tidy-same (ρ .user-rows) (σ .user-rows) us in
+    let ws = tidy-same (ρ .permission-rows) (σ .permission-rows) ps in
+    λ i. record { cycle = c i; users = u i; permissions = p i; hours = h i; roles = r i; user-rows = vs i; permission-rows = ws i }
+
+pub tidy-enabled : (ρ : Rota) (r t : ℕ) → enabled (tidy ρ) r t ≡ enabled ρ r t
+unfolding tidy enabled
+tidy-enabled ρ r t = refl
+
+module _ (ρ : Rota) (w : RotaWell ρ) where
+  -- there are few enough that their numbers are bytes
+  users-few : ρ .users ≤ 256
+  users-few = omega (arith, w .users-most)
+
+  permissions-few : ρ .permissions ≤ 256
+  permissions-few = omega (arith, w .permissions-most)
+
+  roles-few : length (ρ .roles) ≤ 256
+  roles-few = omega (arith, w .roles-most)
+
+  hours-few : length (ρ .hours) ≤ 255
+  hours-few = omega (arith, w .hours-most)
+
+  pub tidy-rota-well : RotaWell (tidy ρ)
+  unfolding tidy
+  tidy-rota-well =
+      record {
+        cycle-some = w .cycle-some;
+        cycle-most = w .cycle-most;
+        hours-most = w .hours-most;
+        users-most = w .users-most;
+        permissions-most = w .permissions-most;
+        roles-most = w .roles-most;
+        user-rows-most = omega (arith, tidy-fewer (ρ .user-rows), w .user-rows-most);
+        permission-rows-most = omega (arith, tidy-fewer (ρ .permission-rows), w .permission-rows-most);
+        hours = w .hours;
+        pairs-most = w .pairs-most;
+        roles = w .roles;
+        user-rows = tidy-well _ _ _ users-few roles-few hours-few _ (w .user-rows);
+        permission-rows = tidy-well _ _ _ permissions-few roles-few hours-few _ (w .permission-rows);
+      }
+
+  pub tidy-user : (u r t : ℕ) → hasUser (tidy ρ) u r t ≡ hasUser ρ u r t
+  unfolding tidy hasUser assigned
+  tidy-user u r t = tidy-assigned _ _ _ users-few roles-few hours-few _ (w .user-rows) ρ u r t
+
+  pub tidy-permission : (p r t : ℕ) → hasPermission (tidy ρ) p r t ≡ hasPermission ρ p r t
+  unfolding tidy hasPermission assigned
+  tidy-permission p r t = tidy-assigned _ _ _ permissions-few roles-few hours-few _ (w .permission-rows) ρ p r t
+
+  pub tidy-through : (u p t r : ℕ) → through (tidy ρ) u p t r ≡ through ρ u p t r
+  unfolding through
+  tidy-through u p t r = λ i. tidy-enabled ρ r t i && tidy-user u r t i && tidy-permission p r t i
+
+  pub tidy-answer : (u p t : ℕ) → answer (tidy ρ) u p t ≡ answer ρ u p t
+  unfolding answer tidy
+  tidy-answer u p t = lowest-same (length (ρ .roles)) (through (tidy ρ) u p t) (through ρ u p t) (λ r _. tidy-through u p t r)
+
+  pub tidy-twice : tidy (tidy ρ) ≡ tidy ρ
+  unfolding tidy
+  tidy-twice =
+      tidy-one (tidy ρ) ρ refl refl refl refl refl
+      (tidy-takes _ _ _ users-few roles-few hours-few _ (w .user-rows))
+      (tidy-takes _ _ _ permissions-few roles-few hours-few _ (w .permission-rows))
