@@ -1,0 +1,2 @@
+pub mod SlotRowLaws
+pub mod OutLaws
