@@ -1,0 +1,3 @@
+pub mod SlotRowLaws
+pub mod OutLaws
+pub mod PutLaws
