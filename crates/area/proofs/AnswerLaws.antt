@@ -1,9 +1,10 @@
 -- What rewriting answers, and the area afterwards, by the stage at which it stops.
 -- Assumes nothing.
-use Prim.Native.Nat.{ℕ, _+_, _*_, _≤_, _<_}
+use Prim.Native.Nat.{ℕ, _≤_, _<_}
 use mathlib.Core.Path.{_≡_, refl, sym, _∙_, ap}
 use mathlib.Core.Bool.{Bool, true, false}
 use mathlib.Core.List.{List, _++_}
+use mathlib.Core.Logic.{⊎-elim}
 use native.Mathlib.Omega.{arith}
 use lib.Dec.{ltb, eqb}
 use lib.ListN.{length, drop}
@@ -11,6 +12,7 @@ use borrow.Author.Tests.{ne-eqb, lt-ltb, le-ltb}
 use Rattle.ground.specs.Choice.{pick}
 use Rattle.ground.specs.Judgement.{refuse, _orElse_}
 use Rattle.ground.specs.Outcome.{Outcome, refused, given}
+use Rattle.ground.proofs.BoolLaws.{lt-or-le}
 use Rattle.ground.proofs.JudgementLaws.{orElse-ne}
 use Rattle.ground.proofs.OutcomeLaws.{outcome-refused, outcome-given}
 use Rattle.rota.specs.RotaBytes.{rotaOf}
@@ -25,22 +27,44 @@ use Rattle.table.specs.TableBytes.{tableBytes}
 use Rattle.derivation.specs.Rewriting.{rewrite, sizeOf, rewriteJudged, Written, writtenOf, rewriteOutcome, areaAfter}
 use Rattle.derivation.specs.Roles.{rewriteRoles}
 use Rattle.derivation.proofs.RoleByRole.{by-roles}
-use Rattle.area.specs.Parts.{placedOutcome, placedArea}
+use Rattle.counting.specs.Parts.{lengthWith, CountedTo}
+use Rattle.counting.specs.declared.Count.{Count}
+use Rattle.placing.proofs.TableLaws.{size-fits}
+use Rattle.area.specs.Parts.{countsOf, placedOutcome, placedArea}
 
-module _ (τ : Table) (area : List ℕ) where
+module _ (τ : Table) (room : ℕ) where
   -- the table is longer than the area
-  pub too-long : length area < sizeOf τ → (refused 20 ≡ placedOutcome τ (length area)) × (area ≡ placedArea τ area)
-  unfolding placedOutcome placedArea refuse
-  too-long h = let e = lt-ltb (length area) (sizeOf τ) h in (rw e (outcome-refused 20 _ (λ z. absurd (omega arith))), rw e)
+  too-long : room < sizeOf τ → refused 20 ≡ placedOutcome τ room
+  unfolding placedOutcome refuse
+  too-long h = rw (lt-ltb room (sizeOf τ) h) (outcome-refused 20 _ (λ z. absurd (omega arith)))
 
   -- it is written
-  pub written : (d n len : ℕ) (after : List ℕ) → sizeOf τ ≤ length area → d ≡ length (τ .entries) → n ≡ length (τ .rows) → len ≡ 16 + 17 * d + 16 * n
-      → after ≡ tableBytes τ ++ drop (sizeOf τ) area → (given (record { derived = d; rows = n; length = len }) ≡ placedOutcome τ (length area)) × (after ≡ placedArea τ area)
-  unfolding placedOutcome placedArea refuse
-  written d n len after h ed en el ea = let e = le-ltb (length area) (sizeOf τ) h in (ap given same ∙ rw e (outcome-given 0 (writtenOf τ) refl), ea ∙ rw e)
+  written : (k : Count) → sizeOf τ ≤ room → (k .entries ≡ length (τ .entries)) × (k .rows ≡ length (τ .rows))
+      → given (countsOf k) ≡ placedOutcome τ room
+  unfolding placedOutcome refuse
+  written k h e = rw (le-ltb room (sizeOf τ) h) (ap given same ∙ outcome-given 0 (writtenOf τ) refl)
     where
-      same : _≡_ {A = Written} (record { derived = d; rows = n; length = len }) (writtenOf τ)
-      same = unfold writtenOf sizeOf in rw (el, ed, en)
+      same : countsOf k ≡ writtenOf τ
+      same = unfold writtenOf sizeOf in rw (e .0, e .1)
+
+  -- by the counts: they are the table's, or already too many
+  pub told : (k : Count) → CountedTo τ room k
+      → pick (ltb room (lengthWith (k .entries) (k .rows))) (refused 20) (given (countsOf k)) ≡ placedOutcome τ room
+  told k q = ⊎-elim over within (lt-or-le room (lengthWith (k .entries) (k .rows)))
+    where
+      over : room < lengthWith (k .entries) (k .rows)
+          → pick (ltb room (lengthWith (k .entries) (k .rows))) (refused 20) (given (countsOf k)) ≡ placedOutcome τ room
+      over h = rw (lt-ltb room (lengthWith (k .entries) (k .rows)) h) (too-long (q .over h))
+
+      within : lengthWith (k .entries) (k .rows) ≤ room
+          → pick (ltb room (lengthWith (k .entries) (k .rows))) (refused 20) (given (countsOf k)) ≡ placedOutcome τ room
+      within h = rw (le-ltb room (lengthWith (k .entries) (k .rows)) h) (written k (size-fits τ room k q h) (q .exact h))
+
+-- the area is as placing leaves it
+pub left-so : (τ : Table) (area after : List ℕ) → after ≡ pick (ltb (length area) (sizeOf τ)) area (tableBytes τ ++ drop (sizeOf τ) area)
+    → after ≡ placedArea τ area
+unfolding placedArea
+left-so τ area after e = e
 
 module _ (s area : List ℕ) where
   -- the bytes are no rota

@@ -5,11 +5,8 @@ use mathlib.Core.Path.{_≡_}
 use mathlib.Core.List.{List}
 use native.Mathlib.Omega.{arith}
 use lib.ListN.{length}
-use Rattle.grid.specs.Grid.{Parted}
-use Rattle.kinds.specs.Kinds.{Numbered}
 use Rattle.kinds.specs.Kinds as numbering
 use Rattle.derive.specs.Derive.{Room}
-use Rattle.counting.specs.Parts.{Laid, KeepRoom}
 use Rattle.area.specs.Parts.{Scratch}
 
 module _ {n nc most : ℕ} {held row kinds lens masks pairs marks links : List ℕ} (s : Scratch n nc most held row kinds lens masks pairs marks links) where
@@ -28,9 +25,9 @@ module _ {n nc most : ℕ} {held row kinds lens masks pairs marks links : List �
       }
 
   -- for deriving roles over d masks
-  pub derive-room : {d w : ℕ} {masks′ pairs′ marks′ links′ : List ℕ} → d ≤ n → 0 < w → w ≤ most → length masks′ ≡ length masks → length pairs′ ≡ length pairs
-      → length marks′ ≡ length marks → length links′ ≡ length links → Room d w masks′ pairs′ marks′ links′
-  derive-room h p l em ep ek el =
+  pub derive-room : {d w : ℕ} {masks′ links′ : List ℕ} → d ≤ n → 0 < w → w ≤ most → length masks′ ≡ length masks → length links′ ≡ length links
+      → Room d w masks′ pairs marks links′
+  derive-room h p l em el =
       record {
         few = omega (arith, s .few);
         for-sets = omega (arith, s .for-masks);
@@ -40,16 +37,6 @@ module _ {n nc most : ℕ} {held row kinds lens masks pairs marks links : List �
         some = p;
         trees = omega (arith, s .trees);
       }
-
--- what counting asks of the kinds
-pub laid : {s eras cells : List ℕ} {ne nc d : ℕ} {kinds lens ends masks : List ℕ} → Parted s eras ne cells nc → Numbered s ne nc d kinds lens ends masks
-    → Laid s ne d kinds ends masks
-laid {eras = eras} {cells} {nc = nc} {lens = lens} g q = record { eras = eras; cells = cells; nc = nc; lens = lens; parted = g; numbered = q }
-
--- room to keep so many roles, by the lengths of the scratch
-pub keep-room : {roles n a b : ℕ} {pairs marks : List ℕ} → length pairs ≡ a → length marks ≡ b → (2 * (roles * n) ≤ a) × (roles * (n + 1) ≤ b)
-    → KeepRoom roles n pairs marks
-keep-room p m h = record { for-pairs = omega (arith, h .0); for-marks = omega (arith, h .1) }
 
 -- scratch for m fields and h cells is scratch for n and nc
 pub scratch-of : {n nc m h most : ℕ} {held row kinds lens masks pairs marks links : List ℕ} → n ≤ 33345 → n ≤ m → nc ≤ h → 0 < most → most ≤ 65536 → length held ≡ h → length row ≡ h

@@ -1,4 +1,4 @@
--- Header, entries and rows are the table; and what rewriting answers.
+-- Header, entries and rows are the table, put into the area where it fits.
 -- Assumes nothing.
 use Prim.Native.Nat.{ℕ, _+_, _*_, _≤_, _<_}
 use mathlib.Core.Path.{_≡_, refl, sym, _∙_, ap, ap₂}
@@ -6,24 +6,24 @@ use mathlib.Core.List.{List, _++_}
 use native.Mathlib.Omega.{arith}
 use lib.ListN.{length, drop}
 use lib.Seq.{sets, length-sets}
-use lib.Dec.{leb}
+use lib.Dec.{ltb, leb}
 use mathlib.Core.Bool.{Bool, true, false}
-use borrow.Author.Tests.{le-leb, lt-leb, leb-true, leb-false}
+use borrow.Author.Tests.{lt-ltb, le-ltb, le-leb, lt-leb, leb-true, leb-false}
 use Rattle.table.specs.declared.Counts.{Counts}
+use Rattle.ground.specs.Choice.{pick}
 use Rattle.ground.specs.Sequence.{joined}
-use Rattle.ground.specs.Outcome.{refused, given}
 use Rattle.endian.specs.Numbers.{bytes16, bytes32}
 use Rattle.endian.proofs.StandsLaws.{joined-length}
 use Rattle.rota.specs.RotaBytes.{rotaOf}
 use Rattle.rota.specs.declared.Layout.{Layout}
 use Rattle.rota.proofs.RotaWellLaws.{roles-count}
+use Rattle.table.specs.Table.{Table}
 use Rattle.table.specs.TableBytes.{headerBytes, entryBytes, rowBytes, tableBytes}
 use Rattle.derivation.specs.Rewriting.{sizeOf}
 use Rattle.derivation.specs.Roles.{rewriteRoles}
 use Rattle.rota.specs.Inside.{Located}
-use Rattle.area.specs.Parts.{HeaderFits, started, placedOutcome, placedArea}
+use Rattle.placing.specs.Parts.{HeaderFits, started}
 use Rattle.counting.specs.Parts.{lengthWith, CountedTo}
-use Rattle.area.proofs.AnswerLaws.{too-long, written}
 use Rattle.counting.specs.declared.Count.{Count}
 use Rattle.rota.proofs.LocatedLaws.{fine, counted}
 use Rattle.writing.proofs.WriteLaws.{entry-long, row-long, three-runs}
@@ -52,6 +52,11 @@ module _ (area : List ℕ) (n : Counts) (size : ℕ) where
   pub started-no : (b : Bool) (after : List ℕ) → b ≡ leb size (length area) → b ≡ false → after ≡ started area n size → (length area < size) × (after ≡ area)
   unfolding started
   started-no b after e t q = let y = sym e ∙ t in (leb-false size (length area) y, q ∙ rw y)
+
+-- counts that are not too many are the table's
+pub size-fits : (τ : Table) (room : ℕ) (k : Count) → CountedTo τ room k → lengthWith (k .entries) (k .rows) ≤ room → sizeOf τ ≤ room
+unfolding sizeOf
+size-fits τ room k q h = let z = q .exact h in omega (arith, z .0, z .1)
 
 header-long : (c u p r d n : ℕ) → length (headerBytes c u p r d n) ≡ 16
 unfolding headerBytes bytes16 bytes32
@@ -95,19 +100,15 @@ module _ (s : List ℕ) (l : Layout) (w : Located s l) where
         ∙ ap₂ (λ (x y : ℕ). tableBytes τ ++ drop (16 + x + y) out) le lr
 
   -- what becomes of an area once its header is written or not
-  module _ (first end : ℕ) (area : List ℕ) (k : Count) (q : CountedTo (rewriteRoles (rotaOf s) first end) (length area) k) (b : Bool) (after : List ℕ)
-      (eb : b ≡ leb (lengthWith (k .entries) (k .rows)) (length area))
-      (ea : after ≡ started area (countsWith l (k .entries) (k .rows)) (lengthWith (k .entries) (k .rows))) where
+  module _ (first end : ℕ) (area : List ℕ) (k : Count) (q : CountedTo (rewriteRoles (rotaOf s) first end) (length area) k) (size : ℕ)
+      (es : size ≡ lengthWith (k .entries) (k .rows)) (b : Bool) (after : List ℕ) (eb : b ≡ leb size (length area))
+      (ea : after ≡ started area (countsWith l (k .entries) (k .rows)) size) where
     begun : b ≡ true → (lengthWith (k .entries) (k .rows) ≤ length area)
         × (after ≡ sets area 0 (headerBytes (l .counts .cycle) (l .counts .users) (l .counts .permissions) (l .counts .roles) (k .entries) (k .rows)))
-    begun t = started-yes area (countsWith l (k .entries) (k .rows)) (lengthWith (k .entries) (k .rows)) b after eb t ea
+    begun t = let g = started-yes area (countsWith l (k .entries) (k .rows)) size b after eb t ea in (omega (arith, g .0, es), g .1)
 
     pub has-room : b ≡ true → lengthWith (k .entries) (k .rows) ≤ length area
     has-room t = begun t .0
-
-    fits-so : lengthWith (k .entries) (k .rows) ≤ length area → sizeOf (rewriteRoles (rotaOf s) first end) ≤ length area
-    unfolding sizeOf
-    fits-so h = let z = q .exact h in omega (arith, z .0, z .1)
 
     pub can-write : b ≡ true → (k .entries ≡ length (rewriteRoles (rotaOf s) first end .entries)) × (sizeOf (rewriteRoles (rotaOf s) first end) ≤ length after)
     can-write t =
@@ -115,7 +116,7 @@ module _ (s : List ℕ) (l : Layout) (w : Located s l) where
           q .exact (g .0) .0,
           omega (
             arith,
-            fits-so (g .0),
+            size-fits (rewriteRoles (rotaOf s) first end) (length area) k q (g .0),
             ap length (g .1),
             length-sets area 0 (headerBytes (l .counts .cycle) (l .counts .users) (l .counts .permissions) (l .counts .roles) (k .entries) (k .rows)),
           ),
@@ -124,17 +125,17 @@ module _ (s : List ℕ) (l : Layout) (w : Located s l) where
     pub has-written : b ≡ true → (last : List ℕ)
         → last ≡ sets (sets after 16 (joined entryBytes (rewriteRoles (rotaOf s) first end .entries))) (16 + 17 * k .entries)
         (joined rowBytes (rewriteRoles (rotaOf s) first end .rows))
-        → (given (record { derived = k .entries; rows = k .rows; length = lengthWith (k .entries) (k .rows) }) ≡ placedOutcome (rewriteRoles (rotaOf s) first end) (length area))
-        × (last ≡ placedArea (rewriteRoles (rotaOf s) first end) area)
+        → last ≡ pick (ltb (length area) (sizeOf (rewriteRoles (rotaOf s) first end))) area
+        (tableBytes (rewriteRoles (rotaOf s) first end) ++ drop (sizeOf (rewriteRoles (rotaOf s) first end)) area)
     has-written t last e =
         let g = begun t in
         let z = q .exact (g .0) in
-        let f = fits-so (g .0) in
-        written (rewriteRoles (rotaOf s) first end) area (k .entries) (k .rows) (lengthWith (k .entries) (k .rows)) last f (z .0) (z .1) refl
-        (table-written first end (k .entries) (k .rows) (z .0) (z .1) area after last f (g .1) e)
+        let f = size-fits (rewriteRoles (rotaOf s) first end) (length area) k q (g .0) in
+        table-written first end (k .entries) (k .rows) (z .0) (z .1) area after last f (g .1) e
+        ∙ rw (le-ltb (length area) (sizeOf (rewriteRoles (rotaOf s) first end)) f)
 
-    pub has-not : b ≡ false → (refused 20 ≡ placedOutcome (rewriteRoles (rotaOf s) first end) (length area)) × (after ≡ placedArea (rewriteRoles (rotaOf s) first end) area)
+    pub has-not : b ≡ false → after ≡ pick (ltb (length area) (sizeOf (rewriteRoles (rotaOf s) first end))) area
+        (tableBytes (rewriteRoles (rotaOf s) first end) ++ drop (sizeOf (rewriteRoles (rotaOf s) first end)) area)
     has-not t =
-        let g = started-no area (countsWith l (k .entries) (k .rows)) (lengthWith (k .entries) (k .rows)) b after eb t ea in
-        let z = too-long (rewriteRoles (rotaOf s) first end) area (q .over (g .0)) in
-        (z .0, g .1 ∙ z .1)
+        let g = started-no area (countsWith l (k .entries) (k .rows)) size b after eb t ea in
+        g .1 ∙ rw (lt-ltb (length area) (sizeOf (rewriteRoles (rotaOf s) first end)) (q .over (omega (arith, g .0, es))))

@@ -1,7 +1,7 @@
-use Rattle.area.proofs.TableLaws.{not-started, is-started}
+use Rattle.placing.proofs.TableLaws.{not-started, is-started}
 use borrow.Author.Needs.{needs}
-use Rattle.area.proofs.start_table.Statement.{statement}
-use Rattle.area.proofs.start_table.Tie as tie
+use Rattle.placing.proofs.start_table.Statement.{statement}
+use Rattle.placing.proofs.start_table.Tie as tie
 
 returns : tie.Need-returns
 returns c = let a = c .before .before .args in not-started (a .out .now) (a .header) (a .size) (c .if1 .taken)

@@ -2,8 +2,8 @@ use native.Mathlib.Omega.{arith}
 use Rattle.counting.proofs.KeptLaws.{start-fits}
 use borrow.Author.Needs.{needs}
 use borrow.Author.Tests.{leb-true}
-use Rattle.area.proofs.all_fit.Statement.{statement}
-use Rattle.area.proofs.all_fit.Tie as tie
+use Rattle.placing.proofs.all_fit.Statement.{statement}
+use Rattle.placing.proofs.all_fit.Tie as tie
 
 mul-if1 : tie.Need-mul-if1
 mul-if1 c = omega (arith, start-fits (c .args .roles) (c .args .n) (c .pre .0) (c .pre .1))
