@@ -11,8 +11,8 @@
  *   list of questions, and leaves the service record as it came. No call loops for ever, allocates, opens a file, reads a clock, or keeps
  *   anything between calls.
  * - The caller owns all memory. Bytes are lent as a pointer and a length for the time of the call, questions as a pointer and a count; no
- *   pointer is kept. The library reads within the length, and writes only within an output area, to a service record, and to the answers of
- *   questions.
+ *   pointer is kept. The library reads within the length, and writes only within an output area, to a service record, and to the questions of
+ *   a page, of which the answers alone change.
  * - A null pointer with length 0 is an empty input: a rota of no bytes is refusal 1, a table refusal 21. As an output area it is an area
  *   of no bytes: refusal 20, unless the rota is refused; with count 0 it is a list of no questions. A null pointer with another length or
  *   count, and a null service record, are errors of the caller that no library can see.
