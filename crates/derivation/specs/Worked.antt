@@ -8,6 +8,7 @@ use Rattle.rota.specs.Rota.{Rota}
 abbrev pub example : Rota
 example =
     record {
+      format = 1;
       cycle = 10;
       users = 1;
       permissions = 1;

@@ -2,11 +2,12 @@
 --     turns-none, turns-more, turns-stop, turns-refused   before the first turn; a turn that refuses nothing; the first that refuses
 --     turns-all, turns-clear               where nothing is refused no turn refuses, and the other way round
 --     turns-any                            turns that share one refusal: it is given where some turn refuses
---     orElse-ne, orElse-zero               a first judgement that refuses; both judgements where nothing is refused
+--     turns-same                           turns that refuse the same
+--     orElse-ne, orElse-zero, orElse-none  a first judgement that refuses; both judgements where nothing is refused; a second that refuses nothing
 --     refuse-yes, refuse-none, refuse-no   a rule whose test holds, or fails; the test of a rule that does not refuse
 -- Assumes nothing.
 use Prim.Native.Nat.{ℕ, zero, suc, _+_, _<_}
-use mathlib.Core.Path.{_≡_, refl, ap, _∙_}
+use mathlib.Core.Path.{_≡_, refl, ap, ap₂, _∙_}
 use mathlib.Core.Logic.{⊎-elim}
 use mathlib.Core.Bool.{Bool, true, false, _||_}
 use native.Mathlib.Nat.{not-suc-le-zero, le-of-suc-le-suc, eq-or-lt-of-le, le-refl, lt-trans}
@@ -29,6 +30,11 @@ pub orElse-zero : (a b : ℕ) → a orElse b ≡ 0 → (a ≡ 0) × (b ≡ 0)
 unfolding _orElse_
 orElse-zero zero b h = (refl, h)
 orElse-zero (suc a) b h = absurd (omega arith)
+
+pub orElse-none : (a : ℕ) → a orElse 0 ≡ a
+unfolding _orElse_
+orElse-none zero = refl
+orElse-none (suc a) = refl
 
 pub refuse-no : (k : ℕ) (b : Bool) → refuse (suc k) b ≡ 0 → b ≡ false
 unfolding refuse
@@ -82,6 +88,11 @@ module _ (f : ℕ → ℕ) where
   unfolding inTurn _orElse_
   turns-clear zero h = refl
   turns-clear (suc n) h = rw (turns-clear n (λ i l. h i (lt-trans l (le-refl (suc n))))) (h n (le-refl (suc n)))
+
+pub turns-same : (n : ℕ) (f g : ℕ → ℕ) → ((i : ℕ) → i < n → f i ≡ g i) → inTurn f n ≡ inTurn g n
+unfolding inTurn
+turns-same zero f g h = refl
+turns-same (suc n) f g h = ap₂ _orElse_ (turns-same n f g (λ i l. h i (lt-trans l (le-refl (suc n))))) (h n (le-refl (suc n)))
 
 pub turns-any : (n : ℕ) (f : ℕ → Bool) (m : ℕ) → inTurn (λ k. refuse n (f k)) m ≡ refuse n (anyBelow m f)
 unfolding inTurn anyBelow refuse

@@ -52,6 +52,7 @@ fn no_layout() -> Layout
             roles: 0,
             user_rows: 0,
             permission_rows: 0,
+            format: 0,
         },
         hours_at: 0,
         roles_at: 0,

@@ -1,17 +1,19 @@
 -- The counts of the header, field by field.
 -- Assumes nothing.
-use Prim.Native.Nat.{ℕ, _≤_}
+use Prim.Native.Nat.{ℕ, _+_, _*_, _≤_, _<_}
 use mathlib.Core.Path.{_≡_, ap}
 use mathlib.Core.List.{List}
+use native.Mathlib.Omega.{arith}
 use lib.ListN.{length}
 use Rattle.ground.specs.Judgement.{inTurn}
 use Rattle.hours.specs.HoursBytes.{recordAt}
 use Rattle.hours.specs.HoursRefusals.{recordJudged}
-use Rattle.rota.specs.RotaBytes.{headerLength, cycleOf, hoursOf, usersOf, permissionsOf, rolesOf, userRowsOf, permissionRowsOf, rolesAt, userRowsAt, permissionRowsAt}
+use Rattle.rota.specs.RotaBytes.{headerLength, formatOf, cycleOf, hoursOf, usersOf, permissionsOf, rolesOf, userRowsOf, permissionRowsOf, rolesAt, userRowsAt, permissionRowsAt}
 use Rattle.rota.specs.RotaRefusals.{headerJudged}
 use Rattle.rota.specs.Answers.{countsOf}
-use Rattle.rota.specs.Inside.{layoutOf, Measured}
+use Rattle.rota.specs.Inside.{layoutOf, Measured, RowsKnown}
 use Rattle.rota.specs.declared.Counts.{Counts}
+use Rattle.rota.proofs.RotaFine.{HeaderFine}
 
 pub record CountsAre (s : List ℕ) (n : Counts) : Type 0 where
   pub cycle : n .cycle ≡ cycleOf s
@@ -21,6 +23,7 @@ pub record CountsAre (s : List ℕ) (n : Counts) : Type 0 where
   pub roles : n .roles ≡ rolesOf s
   pub user-rows : n .«user_rows» ≡ userRowsOf s
   pub permission-rows : n .«permission_rows» ≡ permissionRowsOf s
+  pub format : n .format ≡ formatOf s
 
 module _ (s : List ℕ) where
   pub counts-are : (n : Counts) → n ≡ countsOf s → CountsAre s n
@@ -34,6 +37,7 @@ module _ (s : List ℕ) where
         roles = ap (λ (x : Counts). x .roles) e;
         user-rows = ap (λ (x : Counts). x .«user_rows») e;
         permission-rows = ap (λ (x : Counts). x .«permission_rows») e;
+        format = ap (λ (x : Counts). x .format) e;
       }
 
   pub counts-by : (n : Counts) → CountsAre s n → n ≡ countsOf s
@@ -47,6 +51,7 @@ module _ (s : List ℕ) where
         roles = a .roles i;
         «user_rows» = a .user-rows i;
         «permission_rows» = a .permission-rows i;
+        format = a .format i;
       }
 
   pub layout-by : (n : Counts) (hours at first second : ℕ) → n ≡ countsOf s → hours ≡ headerLength s → at ≡ rolesAt s → first ≡ userRowsAt s
@@ -78,3 +83,18 @@ module _ {s : List ℕ} {n : Counts} {from : ℕ} (a : CountsAre s n) (b : from 
 
   pub records-end : {at : ℕ} → at ≡ recordAt s from (n .hours) → at ≡ rolesAt s
   records-end h = rw (b, a .hours) at h
+
+-- rows within the bytes, with the header's counts
+pub rows-known : {s : List ℕ} {h users permissions roles a b at : ℕ} → Measured s h users permissions roles a b at → HeaderFine s → (n top from m : ℕ)
+    → 0 < n → from + 3 * m ≤ length s → top ≤ 64 → RowsKnown n s h roles top from m
+rows-known w f n top from m some within few =
+    record {
+      number = some;
+      header = f .long;
+      within = within;
+      hours = w .hours;
+      roles-are = w .roles-are;
+      hours-most = omega (arith, w .hours, f .hours-most);
+      roles-most = omega (arith, w .roles-are, f .roles-most);
+      top-most = few;
+    }

@@ -1,4 +1,5 @@
 pub mod HeaderLaws
+pub mod OrderLaws
 pub mod RowLaws
 pub mod RotaFine
 pub mod CountsLaws

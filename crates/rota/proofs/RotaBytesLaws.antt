@@ -7,6 +7,7 @@ use Rattle.endian.proofs.RestLaws.{Rest, rest-whole, rest-none, rest-to, next8,
 use Rattle.endian.proofs.ByteLaws.{AllBytes, _then_, in8, in16, in-joined}
 use Prim.Native.Nat.{ℕ, suc, _+_, _*_, _≤_, _<_}
 use mathlib.Core.Path.{_≡_, refl, sym, _∙_, ap, ap₂}
+use mathlib.Core.Logic.{_⊎_, inl, inr}
 use mathlib.Core.List.{List, [], _++_, append-assoc, append-nil}
 use native.Mathlib.Nat.{zero-add}
 use native.Mathlib.Omega.{arith}
@@ -52,11 +53,11 @@ module _ {s : List ℕ} (h : ℕ) (few : h ≤ 255) where
       rs m w (rest-to (at + 3 * 0) (omega arith) q)
 
 -- the whole rota, and what follows it
-pub read-rota : (s : List ℕ) (ρ : Rota) (m : List ℕ) → RotaWell ρ → Rest s 0 (rotaBytes ρ ++ m) → (u16At s 0 ≡ 1) × (rotaOf s ≡ ρ) × Rest s (endsAt s) m
+pub read-rota : (s : List ℕ) (ρ : Rota) (m : List ℕ) → RotaWell ρ → Rest s 0 (rotaBytes ρ ++ m) → (rotaOf s ≡ ρ) × Rest s (endsAt s) m
 unfolding rotaBytes headerBytes rotaOf
 read-rota s ρ m w q =
     let few : length (ρ .hours) ≤ 255 = omega (arith, w .hours-most) in
-    let q0 = next16 1 _ (simp append-assoc at q) in
+    let q0 = next16 (ρ .format) _ (simp append-assoc at q) in
     let q2 = next16 (ρ .cycle) _ (q0 .1) in
     let q4 = next8 (length (ρ .hours)) _ (q2 .1) in
     let q5 = next8 (ρ .users) _ (q4 .1) in
@@ -68,14 +69,14 @@ read-rota s ρ m w q =
     let roles = rw (← q7 .0) at (read-refs _ few (rolesAt s) (ρ .roles) _ (w .roles) (hours .1)) in
     let user-rows = rw (← q8 .0) at (read-rows _ few _ _ (userRowsAt s) (ρ .user-rows) _ (w .user-rows) (roles .1)) in
     let permission-rows = rw (← q10 .0) at (read-rows _ few _ _ (permissionRowsAt s) (ρ .permission-rows) m (w .permission-rows) (user-rows .1)) in
-    (q0 .0, rw (q2 .0, q5 .0, q6 .0, hours .0, roles .0, user-rows .0, permission-rows .0), permission-rows .1)
+    (rw (q0 .0, q2 .0, q5 .0, q6 .0, hours .0, roles .0, user-rows .0, permission-rows .0), permission-rows .1)
 
 pub read-laid : (ρ : Rota) → RotaWell ρ → Laid (rotaBytes ρ) × (rotaOf (rotaBytes ρ) ≡ ρ)
 read-laid ρ w =
     let s = rotaBytes ρ in
     let q = read-rota s ρ [] w (rw append-nil (rest-whole s)) in
-    let ended : length s ≡ endsAt s = rest-none (q .2) in
-    (record { long = omega (arith, recordAt-is s (headerLength s) (hoursOf s)); format = q .0; ended = ended }, q .1)
+    let ended : length s ≡ endsAt s = rest-none (q .1) in
+    (record { long = omega (arith, recordAt-is s (headerLength s) (hoursOf s)); ended = ended }, q .0)
 
 -- ranges, where there are h hours records
 module _ (h : ℕ) (few : h ≤ 255) where
@@ -88,6 +89,10 @@ module _ (h : ℕ) (few : h ≤ 255) where
   in-rows top roles l m rs w =
       in-joined rowBytes (RowWell top roles h) (λ r v. in8 (omega (arith, v .number)) then in8 (omega (arith, v .role)) then in-ref h (r .hours) few (v .hours)) rs w
 
+in-format : {n : ℕ} → (n ≡ 1) ⊎ (n ≡ 3) → n < 65536
+in-format (inl e) = omega arith
+in-format (inr e) = omega arith
+
 pub in-rota : (ρ : Rota) → RotaWell ρ → AllBytes (rotaBytes ρ)
 unfolding rotaBytes headerBytes
 in-rota ρ w =
@@ -95,7 +100,7 @@ in-rota ρ w =
     let users : ρ .users ≤ 256 = omega (arith, w .users-most) in
     let permissions : ρ .permissions ≤ 256 = omega (arith, w .permissions-most) in
     let roles : length (ρ .roles) ≤ 256 = omega (arith, w .roles-most) in
-    (in16 {v = 1} (omega arith) then in16 (omega (arith, w .cycle-most)) then in8 (omega arith) then in8 (omega (arith, w .users-most))
+    (in16 (in-format (w .format)) then in16 (omega (arith, w .cycle-most)) then in8 (omega arith) then in8 (omega (arith, w .users-most))
     then in8 (omega (arith, w .permissions-most)) then in8 (omega (arith, w .roles-most)) then in16 (omega (arith, w .user-rows-most))
     then in16 (omega (arith, w .permission-rows-most)))
     then in-records (ρ .cycle) (omega (arith, w .cycle-most)) (ρ .hours) (w .pairs-most) (w .hours)
@@ -130,12 +135,12 @@ module _ (s : List ℕ) (b : Bytes s) where
   unfolding part
   ends n e p = p ∙ rw (← e) (take-length s)
 
-  spell-header : headerLength s ≤ length s → u16At s 0 ≡ 1 → headerBytes (rotaOf s) ≡ part 0 (headerLength s) s
+  spell-header : headerLength s ≤ length s → headerBytes (rotaOf s) ≡ part 0 (headerLength s) s
   unfolding headerBytes rotaOf
-  spell-header l format =
+  spell-header l =
       let long = header-long s refl l in
       let one : (i : ℕ) → i < length s → bytes8 (u8At s i) ≡ part i 1 s = λ i l. sym (part-one s i l) in
-      let f2 = grown 2 2 (ap bytes16 (sym format) ∙ spell16 s b 0 (omega arith)) (spell16 s b 2 (omega arith)) in
+      let f2 = grown 2 2 (spell16 s b 0 (omega arith)) (spell16 s b 2 (omega arith)) in
       let f4 = grown 4 1 f2 (ap bytes8 (hours-count s) ∙ one 4 (omega arith)) in
       let f5 = grown 5 1 f4 (one 5 (omega arith)) in
       let f6 = grown 6 1 f5 (one 6 (omega arith)) in
@@ -147,7 +152,7 @@ module _ (s : List ℕ) (b : Bytes s) where
   unfolding rotaBytes rotaOf
   spell-rota d =
       let ended = d .ended in
-      let hours = grown (headerLength s) _ (spell-header (d .long) (d .format)) (spell-records s b (headerLength s) (hoursOf s) (omega arith)) in
+      let hours = grown (headerLength s) _ (spell-header (d .long)) (spell-records s b (headerLength s) (hoursOf s) (omega arith)) in
       let roles = grown (rolesAt s) _ (rw (← recordAt-is s (headerLength s) (hoursOf s)) at hours) (spell-refs (rolesAt s) (rolesOf s) (omega arith)) in
       let user-rows = grown (userRowsAt s) _ roles (spell-rows (userRowsAt s) (userRowsOf s) (omega arith)) in
       let permission-rows = grown (permissionRowsAt s) _ user-rows (spell-rows (permissionRowsAt s) (permissionRowsOf s) (omega arith)) in

@@ -1,25 +1,28 @@
 -- What is known of a rota that is accepted.
 -- Assumes nothing.
 use Prim.Native.Nat.{ℕ, suc, _≤_, _<_}
-use mathlib.Core.Path.{_≡_}
+use mathlib.Core.Path.{_≡_, sym, ap, _∙_}
 use mathlib.Core.List.{List}
-use mathlib.Core.Bool.{false}
-use borrow.Author.Tests.{leb-false, ltb-false, eqb-true, not-false}
+use mathlib.Core.Bool.{false, _&&_}
+use mathlib.Core.Logic.{_⊎_}
+use borrow.Author.Tests.{leb-false, ltb-false, eqb-true, eq-eqb, not-false}
+use lib.Dec.{ltb}
 use lib.ListN.{length}
 use Rattle.ground.specs.Judgement.{inTurn}
 use Rattle.ground.proofs.BoolLaws.{or-no}
 use Rattle.ground.proofs.JudgementLaws.{orElse-zero, refuse-no, turns-all, pos-of}
-use Rattle.endian.specs.Numbers.{u16At}
 use Rattle.hours.specs.Hours.{dangling}
 use Rattle.hours.specs.HoursRefusals.{recordJudged}
-use Rattle.rota.specs.RotaBytes.{headerLength, cycleOf, hoursOf, usersOf, permissionsOf, rolesOf, userRowsOf, permissionRowsOf, userRowsAt, permissionRowsAt, endsAt, roleRef, rowAt}
-use Rattle.rota.specs.RotaRefusals.{countsOver, headerJudged, roleJudged, rowBad, rowJudged, rotaJudged}
+use Rattle.rota.specs.RotaBytes.{headerLength, formatOf, cycleOf, hoursOf, usersOf, permissionsOf, rolesOf, userRowsOf, permissionRowsOf, userRowsAt, permissionRowsAt, endsAt, roleRef, rowAt}
+use Rattle.rota.specs.Order.{keyOf, least}
+use Rattle.rota.specs.RotaRefusals.{countsOver, headerJudged, roleJudged, rowBad, rowFalls, rowJudged, rotaJudged}
 use Rattle.rota.specs.RotaWell.{RowWell}
+use Rattle.rota.proofs.HeaderLaws.{format-is}
 
 -- the header is not refused
 pub record HeaderFine (s : List ℕ) : Type 0 where
   pub long : headerLength s ≤ length s
-  pub format : u16At s 0 ≡ 1
+  pub format : (formatOf s ≡ 1) ⊎ (formatOf s ≡ 3)
   pub cycle-some : 0 < cycleOf s
   pub cycle-most : cycleOf s ≤ 40320
   pub hours-most : hoursOf s ≤ 32
@@ -33,6 +36,10 @@ pub record HeaderFine (s : List ℕ) : Type 0 where
 abbrev pub RowFine : List ℕ → ℕ → ℕ → ℕ → Type 0
 RowFine s top at k = RowWell top (rolesOf s) (hoursOf s) (rowAt s at k)
 
+-- the n rows that begin at `at` ascend where the format fixes their order
+abbrev pub RowsAbove : List ℕ → ℕ → ℕ → Type 0
+RowsAbove s at n = formatOf s ≡ 3 → (k : ℕ) → k < n → least (rowAt s at) k ≤ keyOf (rowAt s at k)
+
 pub record RotaFine (s : List ℕ) : Type 0 where
   pub header : HeaderFine s
   pub records : inTurn (recordJudged s (cycleOf s) (headerLength s)) (hoursOf s) ≡ 0
@@ -40,6 +47,8 @@ pub record RotaFine (s : List ℕ) : Type 0 where
   pub roles : (k : ℕ) → k < rolesOf s → dangling (hoursOf s) (roleRef s k) ≡ false
   pub user-rows : (k : ℕ) → k < userRowsOf s → RowFine s (usersOf s) (userRowsAt s) k
   pub permission-rows : (k : ℕ) → k < permissionRowsOf s → RowFine s (permissionsOf s) (permissionRowsAt s) k
+  pub users-above : RowsAbove s (userRowsAt s) (userRowsOf s)
+  pub permissions-above : RowsAbove s (permissionRowsAt s) (permissionRowsOf s)
 
 module _ (s : List ℕ) where
   pub header-fine : headerJudged s ≡ 0 → HeaderFine s
@@ -56,7 +65,7 @@ module _ (s : List ℕ) where
       let u = or-no _ _ (p .0) in
       record {
         long = ltb-false _ _ (refuse-no _ _ (h1 .0));
-        format = eqb-true _ _ (not-false _ (refuse-no _ _ (h2 .0)));
+        format = format-is _ (not-false _ (refuse-no _ _ (h2 .0)));
         cycle-some = pos-of _ (c .0);
         cycle-most = ltb-false _ _ (c .1);
         hours-most = ltb-false _ _ (u .0);
@@ -70,9 +79,14 @@ module _ (s : List ℕ) where
   pub row-fine : (n top at k : ℕ) → rowJudged (suc n) top s at k ≡ 0 → RowFine s top at k
   unfolding rowJudged rowBad
   row-fine n top at k h =
-      let r = or-no _ _ (refuse-no n _ h) in
+      let r = or-no _ _ (refuse-no n _ (orElse-zero _ _ h .0)) in
       let q = or-no _ _ (r .0) in
       record { number = leb-false _ _ (q .0); role = leb-false _ _ (q .1); hours = r .1 }
+
+  pub row-above : (n top at k : ℕ) → rowJudged n top s at k ≡ 0 → formatOf s ≡ 3 → least (rowAt s at) k ≤ keyOf (rowAt s at k)
+  unfolding rowJudged rowFalls
+  row-above n top at k h e =
+      ltb-false _ _ (sym (ap (λ b. b && ltb (keyOf (rowAt s at k)) (least (rowAt s at) k)) (eq-eqb _ _ e)) ∙ refuse-no 51 _ (orElse-zero _ _ h .1))
 
   pub rota-fine : rotaJudged s ≡ 0 → RotaFine s
   unfolding rotaJudged roleJudged
@@ -89,4 +103,6 @@ module _ (s : List ℕ) where
         roles = λ k l. refuse-no _ _ (turns-all _ _ k l (h4 .0));
         user-rows = λ k l. row-fine 10 _ _ k (turns-all _ _ k l (h5 .0));
         permission-rows = λ k l. row-fine 11 _ _ k (turns-all _ _ k l (h5 .1));
+        users-above = λ e k l. row-above _ _ _ k (turns-all _ _ k l (h5 .0)) e;
+        permissions-above = λ e k l. row-above _ _ _ k (turns-all _ _ k l (h5 .1)) e;
       }

@@ -1,29 +1,32 @@
--- A rota is accepted exactly when its bytes have the header, the format and the length that are asked, and spell a rota that keeps the layout.
+-- A rota is accepted exactly when its bytes have the header and the length that are asked, and spell a rota that keeps the layout.
 --     rota-clear     the converse of rota-fine
 --     judged-iff     the law itself
 -- Assumes nothing.
-use Prim.Native.Nat.{ℕ, _≤_}
-use mathlib.Core.Path.{_≡_}
+use Prim.Native.Nat.{ℕ, _≤_, _<_}
+use mathlib.Core.Path.{_≡_, refl, ap, _∙_}
+use mathlib.Core.Bool.{Bool, true, false, _&&_, and-false}
 use mathlib.Core.Logic.{_↔_}
 use mathlib.Core.List.{List}
 use native.Mathlib.Omega.{arith}
-use borrow.Author.Tests.{eq-eqb, ne-eqb, le-ltb, lt-leb}
+use borrow.Author.Tests.{eq-eqb, eqb-true, ne-eqb, le-ltb, lt-leb}
+use lib.Dec.{eqb, ltb}
 use lib.ListN.{length}
 use Rattle.ground.specs.Judgement.{refuse, _orElse_}
 use Rattle.ground.proofs.JudgementLaws.{turns-clear}
 use Rattle.ground.proofs.SequenceLaws.{listOf-length, all-listOf, listOf-all}
-use Rattle.endian.specs.Numbers.{u16At}
 use Rattle.hours.specs.HoursBytes.{hoursFrom}
 use Rattle.hours_reader.proofs.RecordLaws.{records-iff}
-use Rattle.rota.specs.RotaBytes.{headerLength, cycleOf, hoursOf, usersOf, permissionsOf, rolesOf, userRowsOf, permissionRowsOf, userRowsAt, permissionRowsAt, endsAt, rotaOf}
-use Rattle.rota.specs.RotaRefusals.{countsOver, headerJudged, roleJudged, rowBad, rowJudged, rotaJudged}
+use Rattle.rota.specs.RotaBytes.{headerLength, formatOf, cycleOf, hoursOf, usersOf, permissionsOf, rolesOf, userRowsOf, permissionRowsOf, userRowsAt, permissionRowsAt, endsAt, rowAt, rotaOf}
+use Rattle.rota.specs.Order.{keyOf, least}
+use Rattle.rota.specs.RotaRefusals.{countsOver, headerJudged, roleJudged, rowBad, rowFalls, rowJudged, rotaJudged}
 use Rattle.rota.specs.RotaWell.{RotaWell}
-use Rattle.rota.proofs.RotaFine.{HeaderFine, RowFine, RotaFine, rota-fine}
+use Rattle.rota.proofs.RotaFine.{HeaderFine, RowFine, RowsAbove, RotaFine, rota-fine}
+use Rattle.rota.proofs.HeaderLaws.{is-format}
+use Rattle.rota.proofs.OrderLaws.{ascends-all, all-ascend}
 
--- the bytes have a header of format 1, and end where its counts and the records say
+-- the bytes have a header, and end where its counts and the records say
 pub record Laid (s : List ℕ) : Type 0 where
   pub long : headerLength s ≤ length s
-  pub format : u16At s 0 ≡ 1
   pub ended : length s ≡ endsAt s
 
 module _ (s : List ℕ) where
@@ -51,6 +54,7 @@ module _ (s : List ℕ) where
       let h = f .header in
       let records = records-iff s (cycleOf s) (headerLength s) (hoursOf s) (omega (arith, f .ended)) .0 (f .records) in
       record {
+        format = h .format;
         cycle-some = h .cycle-some;
         cycle-most = h .cycle-most;
         hours-most = rw hours-count (h .hours-most);
@@ -64,6 +68,8 @@ module _ (s : List ℕ) where
         roles = rw hours-count (all-listOf _ _ _ (f .roles));
         user-rows = rw (hours-count, roles-count) (all-listOf _ _ _ (f .user-rows));
         permission-rows = rw (hours-count, roles-count) (all-listOf _ _ _ (f .permission-rows));
+        users-ordered = λ e. all-ascend _ _ (f .users-above e);
+        permissions-ordered = λ e. all-ascend _ _ (f .permissions-above e);
       }
 
   -- and back
@@ -74,7 +80,7 @@ module _ (s : List ℕ) where
         header =
             record {
               long = d .long;
-              format = d .format;
+              format = w .format;
               cycle-some = w .cycle-some;
               cycle-most = w .cycle-most;
               hours-most = rw hours-count at (w .hours-most);
@@ -89,6 +95,8 @@ module _ (s : List ℕ) where
         roles = listOf-all _ _ _ (rw hours-count at (w .roles));
         user-rows = listOf-all _ _ _ (rw (hours-count, roles-count) at (w .user-rows));
         permission-rows = listOf-all _ _ _ (rw (hours-count, roles-count) at (w .permission-rows));
+        users-above = λ e. ascends-all _ _ (w .users-ordered e);
+        permissions-above = λ e. ascends-all _ _ (w .permissions-ordered e);
       }
 
   header-clear : HeaderFine s → headerJudged s ≡ 0
@@ -96,7 +104,7 @@ module _ (s : List ℕ) where
   header-clear h =
       simp (
         le-ltb _ _ (h .long),
-        eq-eqb _ _ (h .format),
+        is-format _ (h .format),
         ne-eqb (cycleOf s) 0 (λ z. omega (arith, h .cycle-some)),
         le-ltb _ _ (h .cycle-most),
         le-ltb _ _ (h .hours-most),
@@ -107,9 +115,17 @@ module _ (s : List ℕ) where
         le-ltb _ _ (h .permission-rows-most),
       )
 
-  row-clear : (n top at k : ℕ) → RowFine s top at k → rowJudged n top s at k ≡ 0
-  unfolding rowJudged rowBad refuse
-  row-clear n top at k w = rw (lt-leb _ _ (w .number), lt-leb _ _ (w .role), w .hours)
+  not-falls : (at n k : ℕ) → RowsAbove s at n → k < n → rowFalls s at k ≡ false
+  unfolding rowFalls
+  not-falls at n k h l = go (eqb (formatOf s) 3) refl
+    where
+      go : (b : Bool) → eqb (formatOf s) 3 ≡ b → (b && ltb (keyOf (rowAt s at k)) (least (rowAt s at) k)) ≡ false
+      go true e = le-ltb _ _ (h (eqb-true _ _ e) k l)
+      go false e = refl
+
+  row-clear : (n top at m k : ℕ) → RowFine s top at k → RowsAbove s at m → k < m → rowJudged n top s at k ≡ 0
+  unfolding rowJudged rowBad refuse _orElse_
+  row-clear n top at m k w h l = rw (lt-leb _ _ (w .number), lt-leb _ _ (w .role), w .hours, not-falls at m k h l)
 
   pub rota-clear : RotaFine s → rotaJudged s ≡ 0
   unfolding rotaJudged roleJudged refuse _orElse_
@@ -119,12 +135,12 @@ module _ (s : List ℕ) where
         f .records,
         eq-eqb _ _ (f .ended),
         turns-clear (roleJudged s) (rolesOf s) (λ k l. rw (f .roles k l)),
-        turns-clear (rowJudged 11 (usersOf s) s (userRowsAt s)) (userRowsOf s) (λ k l. row-clear _ _ _ k (f .user-rows k l)),
-        turns-clear (rowJudged 12 (permissionsOf s) s (permissionRowsAt s)) (permissionRowsOf s) (λ k l. row-clear _ _ _ k (f .permission-rows k l)),
+        turns-clear (rowJudged 11 (usersOf s) s (userRowsAt s)) (userRowsOf s) (λ k l. row-clear _ _ _ _ k (f .user-rows k l) (f .users-above) l),
+        turns-clear (rowJudged 12 (permissionsOf s) s (permissionRowsAt s)) (permissionRowsOf s) (λ k l. row-clear _ _ _ _ k (f .permission-rows k l) (f .permissions-above) l),
       )
 
   pub judged-iff : (rotaJudged s ≡ 0) ↔ (Laid s × RotaWell (rotaOf s))
   judged-iff = (
-    (λ a. let f = rota-fine s a in (record { long = f .header .long; format = f .header .format; ended = f .ended }, fine-well f)),
+    (λ a. let f = rota-fine s a in (record { long = f .header .long; ended = f .ended }, fine-well f)),
     (λ w. rota-clear (well-fine (w .0) (w .1))),
   )

@@ -7,17 +7,18 @@ use Rattle.ground.specs.Search.{any, anyBelow, firstOf, lowestBelow}
 use Rattle.ground.specs.Sequence.{listOf}
 use Rattle.endian.specs.Numbers.{u16At, u32At}
 use Rattle.minutes.specs.Minutes.{E, inPhase}
-use Rattle.hours.specs.Hours.{holds, refHolds, refOf, dangling}
+use Rattle.hours.specs.Hours.{holds, refHolds, refOf, refByte, dangling}
 use Rattle.hours.specs.HoursBytes.{recordAt, pairsBefore, hoursFrom}
 use Rattle.hours.specs.HoursRefusals.{earliest, pairJudged, hoursJudged, recordJudged}
 use Rattle.rota.specs.Rota.{enabled, assigned, hasUser, hasPermission, through, answer}
 use Rattle.rota.specs.RotaBytes.{headerLength, rotaOf}
+use Rattle.rota.specs.Order.{keyOf, least}
 use Rattle.rota.specs.Worked.{small, WorkedMinutes}
-use Rattle.rota.specs.RotaRefusals.{countsOver, headerJudged, roleJudged, rowBad, rowJudged, rotaJudged}
+use Rattle.rota.specs.RotaRefusals.{countsOver, formatRead, headerJudged, roleJudged, rowBad, rowFalls, rowJudged, rotaJudged}
 
 -- opens every definition that an example computes through
 unfoldable opened : Unit {0}
-unfolding E inPhase any anyBelow firstOf lowestBelow listOf u16At u32At holds refHolds refOf dangling recordAt pairsBefore hoursFrom earliest pairJudged hoursJudged recordJudged refuse _orElse_ inTurn enabled assigned hasUser hasPermission through answer headerLength rotaOf countsOver headerJudged roleJudged rowBad rowJudged rotaJudged
+unfolding E inPhase any anyBelow firstOf lowestBelow listOf u16At u32At holds refHolds refOf dangling recordAt pairsBefore hoursFrom earliest pairJudged hoursJudged recordJudged refuse _orElse_ inTurn enabled assigned hasUser hasPermission through answer headerLength rotaOf keyOf least refByte countsOver formatRead headerJudged roleJudged rowBad rowFalls rowJudged rotaJudged
 opened = tt
 
 pub small-accepted : (length small ≡ 54) × (rotaJudged small ≡ 0)

@@ -2,7 +2,7 @@
 use Prim.Native.Nat.{ℕ}
 use mathlib.Core.List.{List}
 use Rattle.ground.specs.Outcome.{Outcome, refused, given, outcome}
-use Rattle.rota.specs.RotaBytes.{cycleOf, hoursOf, usersOf, permissionsOf, rolesOf, userRowsOf, permissionRowsOf}
+use Rattle.rota.specs.RotaBytes.{formatOf, cycleOf, hoursOf, usersOf, permissionsOf, rolesOf, userRowsOf, permissionRowsOf}
 use Rattle.rota.specs.RotaRefusals.{rotaJudged}
 use Rattle.rota.specs.declared.Counts.{Counts}
 use Rattle.rota.specs.declared.RotaAnswer.{RotaAnswer}
@@ -19,6 +19,7 @@ countsOf s =
       roles = rolesOf s;
       «user_rows» = userRowsOf s;
       «permission_rows» = permissionRowsOf s;
+      format = formatOf s;
     }
 
 abbrev pub rotaGiven : RotaAnswer → Outcome Counts

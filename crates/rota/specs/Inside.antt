@@ -1,5 +1,5 @@
 -- What the steps inside promise each other and the crates above, which no reader has to believe.
-use Prim.Native.Nat.{ℕ, _≤_}
+use Prim.Native.Nat.{ℕ, _+_, _*_, _≤_, _<_}
 use mathlib.Core.Path.{_≡_}
 use mathlib.Core.Bool.{not}
 use mathlib.Core.List.{List}
@@ -51,6 +51,17 @@ pub record Measured (s : List ℕ) (h users permissions roles a b at : ℕ) : Ty
   pub permission-rows : b ≡ permissionRowsOf s
   pub ends : at ≡ rolesAt s
   pub within : at ≤ length s
+
+-- n rows from `at` on are to be judged, with a refusal of their own, by the header's counts
+pub record RowsKnown (refusal : ℕ) (s : List ℕ) (h roles top at n : ℕ) : Type 0 where
+  pub number : 0 < refusal
+  pub header : headerLength s ≤ length s
+  pub within : at + 3 * n ≤ length s
+  pub hours : h ≡ hoursOf s
+  pub roles-are : roles ≡ rolesOf s
+  pub hours-most : h ≤ 32
+  pub roles-most : roles ≤ 32
+  pub top-most : top ≤ 64
 
 -- a caller has an accepted rota's layout
 pub record Located (s : List ℕ) (l : Layout) : Type 0 where

@@ -1,5 +1,6 @@
 pub mod Rota
 pub mod RotaBytes
+pub mod Order
 pub mod RotaRefusals
 pub mod RotaWell
 pub mod Answers

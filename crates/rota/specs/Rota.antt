@@ -20,6 +20,8 @@ pub record Row : Type 0 where
   pub hours : HoursRef
 
 pub record Rota : Type 0 where
+  -- 1, or 3, which fixes the order of rows
+  pub format : ℕ
   pub cycle : ℕ
   pub users : ℕ
   pub permissions : ℕ

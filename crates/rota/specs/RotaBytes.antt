@@ -12,7 +12,7 @@ use Rattle.rota.specs.Rota.{Row, Rota}
 -- the bytes that spell a rota: header, hours records, role bytes, volunteer rows, right rows
 unfoldable pub headerBytes : Rota → List ℕ
 headerBytes ρ =
-    bytes16 1 ++ bytes16 (ρ .cycle) ++ bytes8 (length (ρ .hours)) ++ bytes8 (ρ .users) ++ bytes8 (ρ .permissions) ++ bytes8 (length (ρ .roles))
+    bytes16 (ρ .format) ++ bytes16 (ρ .cycle) ++ bytes8 (length (ρ .hours)) ++ bytes8 (ρ .users) ++ bytes8 (ρ .permissions) ++ bytes8 (length (ρ .roles))
     ++ bytes16 (length (ρ .user-rows)) ++ bytes16 (length (ρ .permission-rows))
 
 unfoldable pub refBytes : HoursRef → List ℕ
@@ -29,6 +29,9 @@ rotaBytes ρ =
 -- what bytes spell: the header's length, and its fields
 unfoldable pub headerLength : List ℕ → ℕ
 headerLength s = 12
+
+abbrev pub formatOf : List ℕ → ℕ
+formatOf s = u16At s 0
 
 abbrev pub cycleOf : List ℕ → ℕ
 cycleOf s = u16At s 2
@@ -77,6 +80,7 @@ rowAt s at k = rowAtByte s (at + 3 * k)
 unfoldable pub rotaOf : List ℕ → Rota
 rotaOf s =
     record {
+      format = formatOf s;
       cycle = cycleOf s;
       users = usersOf s;
       permissions = permissionsOf s;

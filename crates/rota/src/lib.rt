@@ -1,12 +1,15 @@
 // The rota: reading it.
 ghost use mathlib.Core.Path.{_≡_};
-ghost use Prim.Native.Nat.{_+_, _*_, _≤_};
+ghost use Prim.Native.Nat.{_+_, _*_, _≤_, _<_};
+ghost use lib.Dec.{ltb};
 ghost use lib.ListN.{length};
 ghost use Rattle.ground.specs.Judgement.{inTurn};
-ghost use Rattle.rota.specs.RotaBytes.{headerLength, rolesAt, rolesOf, hoursOf};
-ghost use Rattle.rota.specs.RotaRefusals.{countsOver, headerJudged, roleJudged, rowJudged};
+ghost use Rattle.ground.specs.Search.{anyBelow};
+ghost use Rattle.rota.specs.RotaBytes.{headerLength, formatOf, rolesAt, rolesOf, hoursOf, rowAtByte, rowAt};
+ghost use Rattle.rota.specs.Order.{keyOf, least};
+ghost use Rattle.rota.specs.RotaRefusals.{countsOver, formatRead, headerJudged, roleJudged, rowJudged};
 ghost use Rattle.rota.specs.Answers.{rotaGiven, readOutcome, countsOf};
-ghost use Rattle.rota.specs.Inside.{layoutGiven, layoutOutcome, restJudged, Measured};
+ghost use Rattle.rota.specs.Inside.{layoutGiven, layoutOutcome, restJudged, Measured, RowsKnown};
 use hours::decode;
 
 // The counts of an accepted rota's header.
@@ -18,6 +21,7 @@ pub struct Counts {
     pub roles: u32,
     pub user_rows: u32,
     pub permission_rows: u32,
+    pub format: u32,
 }
 
 // A rota is accepted with its counts, or refused.
@@ -70,6 +74,16 @@ fn counts_over(s: &[u8]) -> bool
     512 < endian::read16(s, 10)
 }
 
+// Whether a rota of this format is read.
+fn is_read(format: u16) -> bool
+    ensures { λ r. ⌜ r ≡ formatRead format ⌝ }
+{
+    if format == 1 {
+        return true;
+    }
+    format == 3
+}
+
 // The header's refusal, else 0.
 fn judge_header(s: &[u8]) -> u8
     ensures { λ r. ⌜ r ≡ headerJudged (now (s .entry)) ⌝ }
@@ -77,7 +91,7 @@ fn judge_header(s: &[u8]) -> u8
     if s.len() < header_length(s) {
         return 1;
     }
-    if endian::read16(s, 0) != 1 {
+    if !is_read(endian::read16(s, 0)) {
         return 2;
     }
     let cycle = endian::read16(s, 2);
@@ -108,16 +122,71 @@ fn judge_roles(s: &[u8], h: usize, at: usize, n: usize) -> u8
     0
 }
 
-// The first refusal of the n rows from `at` on, else 0. They share one refusal, so it is enough to know whether some row has a number out of range.
-fn judge_rows(refusal: u8, s: &[u8], h: usize, roles: usize, top: usize, at: usize, n: usize) -> u8
-    requires { ⌜ (at + 3 * n ≤ length (now s)) × (h ≡ hoursOf (now s)) × (roles ≡ rolesOf (now s)) × (h ≤ 32) × (roles ≤ 32) × (top ≤ 64) ⌝ }
+// The place in the order of the row at `at`.
+pub fn key_at(s: &[u8], at: usize) -> u32
+    requires { ⌜ at + 3 ≤ length (now s) ⌝ }
+    ensures { λ r. ⌜ (r ≡ keyOf (rowAtByte (now (s .entry)) at)) × (r < 16777216) ⌝ }
+{
+    let role = endian::read8(s, at + 1);
+    let number = endian::read8(s, at);
+    let hours = endian::read8(s, at + 2);
+    ((role * 256 + number) * 256 + hours) as u32
+}
+
+// Whether one of the n rows from `at` on is not above the one before.
+pub fn any_falls(s: &[u8], at: usize, n: usize) -> bool
+    requires { ⌜ at + 3 * n ≤ length (now s) ⌝ }
+    ensures { λ r. ⌜ r ≡ anyBelow n (λ k. ltb (keyOf (rowAt (now (s .entry)) at k)) (least (rowAt (now (s .entry)) at) k)) ⌝ }
+{
+    let mut low = 0;
+    let mut k = 0;
+    while k < n {
+        let key = key_at(s, at + 3 * k);
+        if key < low {
+            return true;
+        }
+        low = key + 1;
+        k += 1;
+    }
+    false
+}
+
+// The first refusal of the n rows from `at` on of a rota of format 3, row by row, else 0.
+fn judge_each(refusal: u8, s: &[u8], h: usize, roles: usize, top: usize, at: usize, n: usize) -> u8
+    requires { ⌜ RowsKnown refusal (now s) h roles top at n × (formatOf (now s) ≡ 3) ⌝ }
     ensures { λ r. ⌜ r ≡ inTurn (rowJudged refusal top (now (s .entry)) at) n ⌝ }
 {
-    if rowscan::rows_out(s, at, n, top as u8, roles as u8, h as u8) {
-        refusal
-    } else {
-        0
+    let mut low = 0;
+    let mut k = 0;
+    while k < n {
+        let i = at + 3 * k;
+        if rowscan::row_out(s, i, top as u8, roles as u8, h as u8) {
+            return refusal;
+        }
+        let key = key_at(s, i);
+        if key < low {
+            return 52;
+        }
+        low = key + 1;
+        k += 1;
     }
+    0
+}
+
+// The first refusal of the n rows from `at` on, else 0. Where the format does not fix their order, and where no row has a number out of range, they
+// share one refusal, so it is enough to know whether some row has it.
+fn judge_rows(refusal: u8, s: &[u8], h: usize, roles: usize, top: usize, at: usize, n: usize) -> u8
+    requires { ⌜ RowsKnown refusal (now s) h roles top at n ⌝ }
+    ensures { λ r. ⌜ r ≡ inTurn (rowJudged refusal top (now (s .entry)) at) n ⌝ }
+{
+    let out = rowscan::rows_out(s, at, n, top as u8, roles as u8, h as u8);
+    if endian::read16(s, 0) != 3 {
+        return if out { refusal } else { 0 };
+    }
+    if out {
+        return judge_each(refusal, s, h, roles, top, at, n);
+    }
+    if any_falls(s, at, n) { 52 } else { 0 }
 }
 
 // The first refusal of what follows the hours records, which end at `at`, else 0. The counts are those of the header.
@@ -163,6 +232,7 @@ fn read_counts(s: &[u8]) -> Counts
         roles: endian::read8(s, 7) as u32,
         user_rows: endian::read16(s, 8) as u32,
         permission_rows: endian::read16(s, 10) as u32,
+        format: endian::read16(s, 0) as u32,
     }
 }
 
@@ -208,7 +278,7 @@ pub fn locate(s: &[u8]) -> LayoutAnswer
     })
 }
 
-// Reads a rota: 1 to 12 in order, or the counts of its header.
+// Reads a rota: 1 to 12 and 52 in order, or the counts of its header.
 pub fn read(s: &[u8]) -> RotaAnswer
     ensures { λ r. ⌜ rotaGiven r ≡ readOutcome (now (s .entry)) ⌝ }
 {

@@ -67,7 +67,7 @@ fn blocks_out(s: &[u8], at: usize, n: usize, low: &[u8; 48], high: &[u8; 48]) ->
 }
 
 // Whether the row at `at` has a number not below `top`, a role not below `roles`, or an hours reference that is neither below `hours` nor 255.
-fn row_out(s: &[u8], at: usize, top: u8, roles: u8, hours: u8) -> bool
+pub fn row_out(s: &[u8], at: usize, top: u8, roles: u8, hours: u8) -> bool
     requires { ⌜ at + 3 ≤ length (now s) ⌝ }
     ensures { λ r. ⌜ r ≡ rowOut top roles hours (now (s .entry)) at ⌝ }
 {

@@ -3,10 +3,11 @@
 --     tidy-rota-well                              a rota that keeps the layout still keeps it
 --     tidy-enabled, tidy-user, tidy-permission    its roles are enabled when they were, and have the users and the permissions that they had
 --     tidy-through, tidy-answer                   so each role lets through what it did, and every answer is the same
---     tidy-twice                                  done again, it makes no difference
+--     tidy-twice, tidy-stays                      done again, it makes no difference; nor with a rota of format 3
 -- Assumes nothing.
 use Prim.Native.Nat.{ℕ, _≤_}
-use mathlib.Core.Path.{_≡_, refl}
+use mathlib.Core.Path.{_≡_, refl, sym}
+use mathlib.Core.Logic.{inr}
 use mathlib.Core.Bool.{_&&_}
 use native.Mathlib.Omega.{arith}
 use lib.ListN.{length}
@@ -14,7 +15,7 @@ use Rattle.ground.proofs.SearchLaws.{lowest-same}
 use Rattle.rota.specs.Rota.{Rota, enabled, assigned, hasUser, hasPermission, through, answer}
 use Rattle.rota.specs.RotaWell.{RotaWell}
 use Rattle.tidying.specs.Tidy.{there, tidy}
-use Rattle.tidying.proofs.TidyLaws.{tidy-same, tidy-takes, tidy-well, tidy-assigned, tidy-fewer}
+use Rattle.tidying.proofs.TidyLaws.{tidy-same, tidy-ascends, tidy-takes, tidy-well, tidy-assigned, tidy-fewer, tidy-tidy}
 
 pub tidy-one : (ρ σ : Rota) → ρ .cycle ≡ σ .cycle → ρ .users ≡ σ .users → ρ .permissions ≡ σ .permissions → ρ .hours ≡ σ .hours
     → ρ .roles ≡ σ .roles → ((k : ℕ) → there (ρ .user-rows) k ≡ there (σ .user-rows) k)
@@ -23,7 +24,7 @@ unfolding tidy
 tidy-one ρ σ c u p h r us ps =
     let vs = tidy-same (ρ .user-rows) (σ .user-rows) us in
     let ws = tidy-same (ρ .permission-rows) (σ .permission-rows) ps in
-    λ i. record { cycle = c i; users = u i; permissions = p i; hours = h i; roles = r i; user-rows = vs i; permission-rows = ws i }
+    λ i. record { format = 3; cycle = c i; users = u i; permissions = p i; hours = h i; roles = r i; user-rows = vs i; permission-rows = ws i }
 
 pub tidy-enabled : (ρ : Rota) (r t : ℕ) → enabled (tidy ρ) r t ≡ enabled ρ r t
 unfolding tidy enabled
@@ -47,6 +48,7 @@ module _ (ρ : Rota) (w : RotaWell ρ) where
   unfolding tidy
   tidy-rota-well =
       record {
+        format = inr refl;
         cycle-some = w .cycle-some;
         cycle-most = w .cycle-most;
         hours-most = w .hours-most;
@@ -60,6 +62,8 @@ module _ (ρ : Rota) (w : RotaWell ρ) where
         roles = w .roles;
         user-rows = tidy-well _ _ _ users-few roles-few hours-few _ (w .user-rows);
         permission-rows = tidy-well _ _ _ permissions-few roles-few hours-few _ (w .permission-rows);
+        users-ordered = λ _. tidy-ascends (ρ .user-rows);
+        permissions-ordered = λ _. tidy-ascends (ρ .permission-rows);
       }
 
   pub tidy-user : (u r t : ℕ) → hasUser (tidy ρ) u r t ≡ hasUser ρ u r t
@@ -84,3 +88,11 @@ module _ (ρ : Rota) (w : RotaWell ρ) where
       tidy-one (tidy ρ) ρ refl refl refl refl refl
       (tidy-takes _ _ _ users-few roles-few hours-few _ (w .user-rows))
       (tidy-takes _ _ _ permissions-few roles-few hours-few _ (w .permission-rows))
+
+  -- a rota of format 3 is tidy already
+  pub tidy-stays : ρ .format ≡ 3 → tidy ρ ≡ ρ
+  unfolding tidy
+  tidy-stays e =
+      let vs = tidy-tidy _ _ _ users-few roles-few hours-few _ (w .user-rows) (w .users-ordered e) in
+      let ws = tidy-tidy _ _ _ permissions-few roles-few hours-few _ (w .permission-rows) (w .permissions-ordered e) in
+      λ i. record { format = sym e i; cycle = ρ .cycle; users = ρ .users; permissions = ρ .permissions; hours = ρ .hours; roles = ρ .roles; user-rows = vs i; permission-rows = ws i }

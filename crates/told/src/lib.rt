@@ -31,6 +31,7 @@ pub struct RotaTold {
     pub roles: u32,
     pub user_rows: u32,
     pub permission_rows: u32,
+    pub format: u32,
 }
 
 // What reading a table tells: the counts of its header.
@@ -84,6 +85,7 @@ pub fn tell_rota(a: RotaAnswer) -> RotaTold
             roles: n.roles,
             user_rows: n.user_rows,
             permission_rows: n.permission_rows,
+            format: n.format,
         },
         RotaAnswer::Refused(n) => RotaTold {
             refusal: n as u32,
@@ -94,6 +96,7 @@ pub fn tell_rota(a: RotaAnswer) -> RotaTold
             roles: 0,
             user_rows: 0,
             permission_rows: 0,
+            format: 0,
         },
     }
 }

@@ -1,6 +1,7 @@
 -- The length, the role bytes and the two kinds of rows are judged in 01's order; counts are those of the header.
 use Rattle.rota.proofs.ReadLaws.{rows-as, rest-length, rest-roles, rest-users, rest-permissions}
 use Rattle.rota.proofs.RotaFine.{header-fine}
+use Rattle.rota.proofs.CountsLaws.{rows-known}
 use Rattle.rota.specs.RotaRefusals.{roleJudged}
 use Rattle.ground.specs.Judgement.{inTurn}
 use mathlib.Core.Path.{sym, ap, _∙_}
@@ -37,7 +38,7 @@ judge-rows-requires : tie.Need-judge-rows-requires
 judge-rows-requires c κs =
     let m = c .before .before .before .before .pre in
     let f = header-fine _ (m .header) in
-    (search needs, m .hours, m .roles-are, omega (arith, f, m .hours), omega (arith, f, m .roles-are), omega (arith, f, m .users-are))
+    rows-known m f 11 _ _ _ (omega arith) (omega (arith, c .before .before .if1 .left)) (omega (arith, f, m .users-are))
 
 returns-3 : tie.Need-returns-3
 returns-3 c = let m = c .before .before .before .before .before .before .pre in rest-users _ (omega (arith, c .before .before .before .before .if1 .left, m .ends, m .roles-are, m .user-rows, m .permission-rows)) (sym (c .before .before .before .judge-roles .ensures ∙ ap (inTurn (roleJudged _)) (m .roles-are)) ∙ c .before .before .if2 .left) _ (c .before .judge-rows .ensures ∙ rows-as _ 11 (m .users-are) (omega (arith, m .ends, m .roles-are)) (m .user-rows)) (c .if3 .taken)
@@ -46,7 +47,7 @@ judge-rows-requires-2 : tie.Need-judge-rows-requires-2
 judge-rows-requires-2 c κs =
     let m = c .before .before .before .before .before .before .pre in
     let f = header-fine _ (m .header) in
-    (search needs, m .hours, m .roles-are, omega (arith, f, m .hours), omega (arith, f, m .roles-are), omega (arith, f, m .permissions-are))
+    rows-known m f 12 _ _ _ (omega arith) (omega (arith, c .before .before .before .before .if1 .left)) (omega (arith, f, m .permissions-are))
 
 returns-4 : tie.Need-returns-4
 returns-4 c = let m = c .before .before .before .before .before .before .before .pre in rest-permissions _ (omega (arith, c .before .before .before .before .before .if1 .left, m .ends, m .roles-are, m .user-rows, m .permission-rows)) (sym (c .before .before .before .before .judge-roles .ensures ∙ ap (inTurn (roleJudged _)) (m .roles-are)) ∙ c .before .before .before .if2 .left) _ (sym (c .before .before .judge-rows .ensures ∙ rows-as _ 11 (m .users-are) (omega (arith, m .ends, m .roles-are)) (m .user-rows)) ∙ c .before .if3 .left) (c .judge-rows2 .ensures ∙ rows-as _ 12 (m .permissions-are) (omega (arith, m .ends, m .roles-are, m .user-rows)) (m .permission-rows))

@@ -49,8 +49,14 @@ read16-requires-3 c κs = omega (arith, header-long _ refl (c .before .before .b
 cast-t15 : tie.Need-cast-t15
 cast-t15 c = search needs
 
+read16-requires-4 : tie.Need-read16-requires-4
+read16-requires-4 c κs = omega (arith, header-long _ refl (c .before .before .before .before .before .before .before .before .pre))
+
+cast-t17 : tie.Need-cast-t17
+cast-t17 c = search needs
+
 returns : tie.Need-returns
-returns c = counts-by _ _ (record { cycle = c .before .before .before .before .before .before .read16 .ensures; hours = c .before .before .before .before .before .read8 .ensures .0; users = c .before .before .before .before .read82 .ensures .0; permissions = c .before .before .before .read83 .ensures .0; roles = c .before .before .read84 .ensures .0; user-rows = c .before .read162 .ensures; permission-rows = c .read163 .ensures })
+returns c = counts-by _ _ (record { cycle = c .before .before .before .before .before .before .before .read16 .ensures; hours = c .before .before .before .before .before .before .read8 .ensures .0; users = c .before .before .before .before .before .read82 .ensures .0; permissions = c .before .before .before .before .read83 .ensures .0; roles = c .before .before .before .read84 .ensures .0; user-rows = c .before .before .read162 .ensures; permission-rows = c .before .read163 .ensures; format = c .read164 .ensures })
 
 pub read-counts-spec : {M : Type 1} → statement M
 read-counts-spec =
@@ -70,4 +76,6 @@ read-counts-spec =
     cast-t13
     read16-requires-3
     cast-t15
+    read16-requires-4
+    cast-t17
     returns)
