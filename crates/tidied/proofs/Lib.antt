@@ -1,1 +1,2 @@
 pub mod RewriteLaws
+pub mod TidiedTheorems

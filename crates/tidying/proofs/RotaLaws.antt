@@ -1,21 +1,28 @@
 -- A rota with its rows in order, each once.
 --     tidy-one                                    rotas that differ in the order and the repeats of their rows alone become one rota
+--     same-tidy, tidy-same-rota                   the same, by sets of rows, and the other way round: they become one rota only if they differ so
 --     tidy-rota-well                              a rota that keeps the layout still keeps it
 --     tidy-enabled, tidy-user, tidy-permission    its roles are enabled when they were, and have the users and the permissions that they had
 --     tidy-through, tidy-answer                   so each role lets through what it did, and every answer is the same
 --     tidy-twice, tidy-stays                      done again, it makes no difference; nor with a rota of format 3
 -- Assumes nothing.
 use Prim.Native.Nat.{ℕ, _≤_}
-use mathlib.Core.Path.{_≡_, refl, sym}
-use mathlib.Core.Logic.{inr}
-use mathlib.Core.Bool.{_&&_}
+use mathlib.Core.Path.{_≡_, refl, sym, ap, _∙_}
+use mathlib.Core.Logic.{inr, _↔_}
+use mathlib.Core.Bool.{true, _&&_}
+use mathlib.Core.List.{List, List·Memᴰ}
 use native.Mathlib.Omega.{arith}
 use lib.ListN.{length}
+use Rattle.ground.specs.Sequence.{All}
+use Rattle.ground.proofs.BoolLaws.{eq-ext}
+use Rattle.ground.proofs.ListLaws.{all-in}
 use Rattle.ground.proofs.SearchLaws.{lowest-same}
-use Rattle.rota.specs.Rota.{Rota, enabled, assigned, hasUser, hasPermission, through, answer}
-use Rattle.rota.specs.RotaWell.{RotaWell}
-use Rattle.tidying.specs.Tidy.{there, tidy}
-use Rattle.tidying.proofs.TidyLaws.{tidy-same, tidy-ascends, tidy-takes, tidy-well, tidy-assigned, tidy-fewer, tidy-tidy}
+use Rattle.rota.specs.Rota.{Row, Rota, enabled, assigned, hasUser, hasPermission, through, answer}
+use Rattle.rota.specs.RotaWell.{RowWell, RotaWell}
+use Rattle.tidying.specs.Tidy.{there, tidyRows, tidy}
+use Rattle.tidying.specs.Same.{Same}
+use Rattle.tidying.proofs.OrderLaws.{there-in, there-out}
+use Rattle.tidying.proofs.TidyLaws.{tidy-same, tidy-ascends, tidy-takes, tidy-well, tidy-assigned, tidy-fewer, tidy-tidy, tidy-in, tidy-out}
 
 pub tidy-one : (ρ σ : Rota) → ρ .cycle ≡ σ .cycle → ρ .users ≡ σ .users → ρ .permissions ≡ σ .permissions → ρ .hours ≡ σ .hours
     → ρ .roles ≡ σ .roles → ((k : ℕ) → there (ρ .user-rows) k ≡ there (σ .user-rows) k)
@@ -96,3 +103,46 @@ module _ (ρ : Rota) (w : RotaWell ρ) where
       let vs = tidy-tidy _ _ _ users-few roles-few hours-few _ (w .user-rows) (w .users-ordered e) in
       let ws = tidy-tidy _ _ _ permissions-few roles-few hours-few _ (w .permission-rows) (w .permissions-ordered e) in
       λ i. record { format = sym e i; cycle = ρ .cycle; users = ρ .users; permissions = ρ .permissions; hours = ρ .hours; roles = ρ .roles; user-rows = vs i; permission-rows = ws i }
+
+-- the places taken say which rows there are, and the rows which places are taken
+there-by : (rows others : List Row) → ((w : Row) → List·Memᴰ w rows → List·Memᴰ w others) → (k : ℕ) → there rows k ≡ true → there others k ≡ true
+there-by rows others h k e = let z = there-out rows k e in ap (there others) (sym (z .2)) ∙ there-in (h (z .0) (z .1))
+
+there-same : (rows others : List Row) → ((w : Row) → List·Memᴰ w rows ↔ List·Memᴰ w others) → (k : ℕ) → there rows k ≡ there others k
+there-same rows others h k =
+    eq-ext (there rows k) (there others k) (there-by rows others (λ w. h w .0) k) (there-by others rows (λ w. h w .1) k)
+
+module _ (ρ σ : Rota) where
+  pub same-tidy : Same ρ σ → tidy ρ ≡ tidy σ
+  same-tidy e =
+      tidy-one ρ σ (e .cycle) (e .users) (e .permissions) (e .hours) (e .roles)
+      (there-same (ρ .user-rows) (σ .user-rows) (e .user-rows)) (there-same (ρ .permission-rows) (σ .permission-rows) (e .permission-rows))
+
+  -- rows that are kept through the order are kept from one rota to the other
+  rows-kept : (top roles h top′ roles′ h′ : ℕ) → top ≤ 256 → roles ≤ 256 → h ≤ 255 → top′ ≤ 256 → roles′ ≤ 256 → h′ ≤ 255 → (rows others : List Row)
+      → All (RowWell top roles h) rows → All (RowWell top′ roles′ h′) others → tidyRows rows ≡ tidyRows others
+      → (w : Row) → List·Memᴰ w rows → List·Memᴰ w others
+  rows-kept top roles h top′ roles′ h′ a b c a′ b′ c′ rows others p q e w m =
+      let there : List·Memᴰ w (tidyRows others) = rw (← e) (tidy-in top roles h a b c rows p m) in
+      all-in (λ (v : Row). List·Memᴰ v others) (tidyRows others) (tidy-out top′ roles′ h′ a′ b′ c′ others q) there
+
+  pub tidy-same-rota : RotaWell ρ → RotaWell σ → tidy ρ ≡ tidy σ → Same ρ σ
+  unfolding tidy
+  tidy-same-rota v w e =
+      let us = ap (λ (x : Rota). x .user-rows) e in
+      let ps = ap (λ (x : Rota). x .permission-rows) e in
+      record {
+        cycle = ap (λ (x : Rota). x .cycle) e;
+        users = ap (λ (x : Rota). x .users) e;
+        permissions = ap (λ (x : Rota). x .permissions) e;
+        hours = ap (λ (x : Rota). x .hours) e;
+        roles = ap (λ (x : Rota). x .roles) e;
+        user-rows = λ x. (
+          rows-kept _ _ _ _ _ _ (users-few ρ v) (roles-few ρ v) (hours-few ρ v) (users-few σ w) (roles-few σ w) (hours-few σ w) _ _ (v .user-rows) (w .user-rows) us x,
+          rows-kept _ _ _ _ _ _ (users-few σ w) (roles-few σ w) (hours-few σ w) (users-few ρ v) (roles-few ρ v) (hours-few ρ v) _ _ (w .user-rows) (v .user-rows) (sym us) x,
+        );
+        permission-rows = λ x. (
+          rows-kept _ _ _ _ _ _ (permissions-few ρ v) (roles-few ρ v) (hours-few ρ v) (permissions-few σ w) (roles-few σ w) (hours-few σ w) _ _ (v .permission-rows) (w .permission-rows) ps x,
+          rows-kept _ _ _ _ _ _ (permissions-few σ w) (roles-few σ w) (hours-few σ w) (permissions-few ρ v) (roles-few ρ v) (hours-few ρ v) _ _ (w .permission-rows) (v .permission-rows) (sym ps) x,
+        );
+      }

@@ -1,2 +1,3 @@
 pub mod Tidy
+pub mod Same
 pub mod Inside

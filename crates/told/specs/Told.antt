@@ -18,8 +18,8 @@ use Rattle.told.specs.declared.NextTold.{NextTold}
 use Rattle.told.specs.declared.Stepped.{Stepped}
 
 abbrev pub rotaTold : Outcome rota.Counts → RotaTold
-rotaTold (refused n) = record { refusal = n; cycle = 0; hours = 0; users = 0; permissions = 0; roles = 0; «user_rows» = 0; «permission_rows» = 0 }
-rotaTold (given c) = record { refusal = 0; cycle = c .cycle; hours = c .hours; users = c .users; permissions = c .permissions; roles = c .roles; «user_rows» = c .«user_rows»; «permission_rows» = c .«permission_rows» }
+rotaTold (refused n) = record { refusal = n; cycle = 0; hours = 0; users = 0; permissions = 0; roles = 0; «user_rows» = 0; «permission_rows» = 0; format = 0 }
+rotaTold (given c) = record { refusal = 0; cycle = c .cycle; hours = c .hours; users = c .users; permissions = c .permissions; roles = c .roles; «user_rows» = c .«user_rows»; «permission_rows» = c .«permission_rows»; format = c .format }
 
 abbrev pub tableTold : Outcome table.Counts → TableTold
 tableTold (refused n) = record { refusal = n; cycle = 0; users = 0; permissions = 0; roles = 0; derived = 0; rows = 0 }
