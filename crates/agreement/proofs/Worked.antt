@@ -21,7 +21,7 @@ use Rattle.policy.specs.Policy.{holdsAny}
 use Rattle.policy.specs.Steady.{lapses, steadyOver}
 use Rattle.rota.specs.Rota.{Rota, policyOf, enabled, assigned, hasUser, hasPermission, through, answer}
 use Rattle.rota.specs.RotaBytes.{headerLength, rotaOf}
-use Rattle.rota.specs.RotaRefusals.{countsOver, headerJudged, roleJudged, rowBad, rowJudged, rotaJudged}
+use Rattle.rota.specs.RotaRefusals.{countsOver, formatRead, headerJudged, roleJudged, rowBad, rowFalls, rowJudged, rotaJudged}
 use Rattle.rota.specs.RotaWell.{RotaWell}
 use Rattle.rota.proofs.RotaTheorems.{accepted-well}
 use Rattle.rota.specs.Worked.{small}
@@ -45,7 +45,7 @@ use Rattle.agreement.proofs.BoardAgreed.{by-rota}
 
 -- opens every definition that an example computes through
 unfoldable opened : Unit {0}
-unfolding E inPhase any anyBelow firstOf lowestBelow countBelow listOf u16At u32At holds refHolds refOf dangling recordAt pairsBefore hoursFrom earliest pairJudged hoursJudged recordJudged refuse _orElse_ inTurn enabled assigned hasUser hasPermission through answer headerLength rotaOf countsOver headerJudged roleJudged rowBad rowJudged rotaJudged holdsAny has setOf insert remove difference count insertCut sortInto gapsFrom gaps addNew addAll placeOf hoursCuts pairCuts pairsCuts eraCuts cellCuts fieldsOf fields firstIn maskOf slotOf assignedIn usersIn permissionsIn keptIn nextEntries markOf derivedFrom marksFrom rowsMarked lapses steadyOver staying stateJudged advanceJudged openJudged callJudged given-by left-by settled stepBy machineStep
+unfolding E inPhase any anyBelow firstOf lowestBelow countBelow listOf u16At u32At holds refHolds refOf dangling recordAt pairsBefore hoursFrom earliest pairJudged hoursJudged recordJudged refuse _orElse_ inTurn enabled assigned hasUser hasPermission through answer headerLength rotaOf countsOver formatRead headerJudged roleJudged rowBad rowFalls rowJudged rotaJudged holdsAny has setOf insert remove difference count insertCut sortInto gapsFrom gaps addNew addAll placeOf hoursCuts pairCuts pairsCuts eraCuts cellCuts fieldsOf fields firstIn maskOf slotOf assignedIn usersIn permissionsIn keptIn nextEntries markOf derivedFrom marksFrom rowsMarked lapses steadyOver staying stateJudged advanceJudged openJudged callJudged given-by left-by settled stepBy machineStep
 opened = tt
 
 abbrev ρ : Rota

@@ -192,7 +192,7 @@ fn rewrite_located(s: &[u8], l: Layout, first: u8, end: u8, out: &mut [u8]) -> R
     rewrite_more(s, l, first, end, out, &eras, ne, &cells, nc)
 }
 
-// Rewrites a rota into an area: 1 to 12 as it is read, then 20 exactly where the table is longer than the area, which then stays as it came; else
+// Rewrites a rota into an area: 1 to 12 and 52 as it is read, then 20 exactly where the table is longer than the area, which then stays as it came; else
 // the table at its start, with the numbers of its derived roles and rows and its length.
 pub fn rewrite(s: &[u8], out: &mut [u8]) -> Rewritten
     ensures { λ r. ⌜ (writtenGiven r ≡ rewriteOutcome (now (s .entry)) (length (now (out .entry)))) × (now (out .exit) ≡ areaAfter (now (s .entry)) (now (out .entry))) ⌝ }

@@ -114,7 +114,7 @@ module _ (s : List ℕ) (b : Bytes s) where
   unfolding refBytes
   spell-ref at l = ap bytes8 (ref-spelt _) ∙ sym (part-one s at l)
 
-  spell-refs : (at n : ℕ) → at + n ≤ length s → joined refBytes (listOf n (λ k. refOf (u8At s (at + k)))) ≡ part at n s
+  pub spell-refs : (at n : ℕ) → at + n ≤ length s → joined refBytes (listOf n (λ k. refOf (u8At s (at + k)))) ≡ part at n s
   spell-refs at n l = tiles s _ refBytes at (λ k. k) (λ _. 1) n refl (λ k m. omega arith) (λ k m. spell-ref (at + k) (omega arith))
 
   spell-row : (at : ℕ) → at + 3 ≤ length s → rowBytes (rowAtByte s at) ≡ part at 3 s
@@ -123,7 +123,7 @@ module _ (s : List ℕ) (b : Bytes s) where
       ap₂ _++_ (ap₂ _++_ (sym (part-one s at (omega arith))) (sym (part-one s (at + 1) (omega arith))) ∙ part-join s at 1 1) (spell-ref (at + 2) (omega arith))
       ∙ part-join s at 2 1
 
-  spell-rows : (at n : ℕ) → at + 3 * n ≤ length s → joined rowBytes (listOf n (rowAt s at)) ≡ part at (3 * n) s
+  pub spell-rows : (at n : ℕ) → at + 3 * n ≤ length s → joined rowBytes (listOf n (rowAt s at)) ≡ part at (3 * n) s
   spell-rows at n l = tiles s (rowAt s at) rowBytes at (λ k. 3 * k) (λ _. 3) n refl (λ k m. omega arith) (λ k m. spell-row (at + 3 * k) (omega arith))
 
   -- the first n bytes, and m more
@@ -135,7 +135,7 @@ module _ (s : List ℕ) (b : Bytes s) where
   unfolding part
   ends n e p = p ∙ rw (← e) (take-length s)
 
-  spell-header : headerLength s ≤ length s → headerBytes (rotaOf s) ≡ part 0 (headerLength s) s
+  pub spell-header : headerLength s ≤ length s → headerBytes (rotaOf s) ≡ part 0 (headerLength s) s
   unfolding headerBytes rotaOf
   spell-header l =
       let long = header-long s refl l in
