@@ -6,7 +6,7 @@
 use std::path::Path;
 
 use reference::hours::{Hours, HoursRef};
-use reference::rota::{Rota, Row};
+use reference::rota::{ANY_ORDER, Rota, Row};
 use reference::{END, calendar, listing, rewriting};
 
 const DAY: u16 = 1_440;
@@ -93,6 +93,7 @@ fn rows(all: &[(u8, &[(u8, HoursRef)])]) -> Vec<Row> {
 
 fn week() -> Rota {
     Rota {
+        format: ANY_ORDER,
         cycle: 7 * DAY,
         hours: hours(),
         users: 20,
