@@ -165,6 +165,8 @@ fn main() -> std::io::Result<()> {
 
 #[cfg(test)]
 mod tests {
+    use reference::rota::TIDY;
+
     use super::*;
 
     #[test]
@@ -178,5 +180,15 @@ mod tests {
     #[test]
     fn the_rota_is_accepted_as_it_is() {
         assert_eq!(Rota::parse(&week().encode()), Ok(week()));
+    }
+
+    /// As data/week.host has it: no row repeats, and the order is another.
+    #[test]
+    fn the_tidy_rota_is_as_long() {
+        let tidy = week().tidy();
+        assert_eq!((tidy.user_rows.len(), tidy.permission_rows.len()), (41, 15));
+        assert_eq!(tidy.encode().len(), 446);
+        assert_eq!(rewriting::table(&tidy), rewriting::table(&week()));
+        assert_eq!(Rota::parse(&Rota { format: TIDY, ..week() }.encode()), Err(52));
     }
 }
