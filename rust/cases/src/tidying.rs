@@ -1,10 +1,12 @@
 //! Tidy rotas: worked ones, with the refusal that is due, and what a tidying reaches.
 
-use reference::Refusal;
 use reference::hours::{Hours, HoursRef};
 use reference::rota::{ANY_ORDER, Rota, Row, TIDY};
+use reference::{END, Refusal};
 
 use crate::case::Tally;
+use crate::generate::{LIMITS, rota_of};
+use crate::random::Random;
 
 const ALWAYS: HoursRef = HoursRef::Always;
 
@@ -137,6 +139,67 @@ pub fn ladder() -> Vec<(Vec<u8>, Refusal)> {
     }
     all.push((whole, 0));
     all
+}
+
+/// Tidy rotas with any number of rows of either kind, each also with any one row out of order, and
+/// with another one out of range besides; with the refusal that is due.
+pub fn each_row_out_of_order(random: &mut Random, mut test: impl FnMut(&Rota, Refusal)) {
+    let whole = rota_of(random, &LIMITS).tidy();
+    for out_of_range in [11, 12] {
+        let mut rota = whole.clone();
+        let mut test = |rows: &[Row], refusal| {
+            let place =
+                if out_of_range == 11 { &mut rota.user_rows } else { &mut rota.permission_rows };
+            *place = rows.to_vec();
+            test(&rota, refusal);
+        };
+        let all = if out_of_range == 11 { &whole.user_rows } else { &whole.permission_rows };
+        for count in (0..=70).chain([127, 128, 129, all.len()]) {
+            let rows = &all[..count];
+            test(rows, 0);
+            for i in 1..count {
+                let (mut swapped, mut repeated) = (rows.to_vec(), rows.to_vec());
+                swapped.swap(i - 1, i);
+                test(&swapped, 52);
+                repeated[i] = repeated[i - 1];
+                test(&repeated, 52);
+                // The first of the two decides, and of one row its range.
+                let other = random.below(count as u32) as usize;
+                repeated[other].number = 64;
+                test(&repeated, if other <= i { out_of_range } else { 52 });
+            }
+        }
+    }
+}
+
+/// Rotas of format 1 that together have each row that there can be, of both kinds: 32 roles, 64
+/// numbers, 32 hours and always. The rows of each are from all over, and fall.
+pub fn all_rows() -> Vec<Rota> {
+    let hours = (0..32).map(HoursRef::Numbered).chain([ALWAYS]);
+    let mut rows: Vec<Row> = Vec::new();
+    for hours in hours {
+        for role in 0..LIMITS.roles as u8 {
+            rows.extend((0..LIMITS.users as u8).map(|number| Row::new(number, role, hours)));
+        }
+    }
+    let most = LIMITS.user_rows as usize;
+    let count = rows.len().div_ceil(most);
+    let part = |i: usize| -> Vec<Row> {
+        let mut part: Vec<Row> = rows.iter().copied().skip(i).step_by(count).collect();
+        part.sort_by_key(|row| std::cmp::Reverse(row.place()));
+        part
+    };
+    let rota = |i: usize| Rota {
+        format: ANY_ORDER,
+        cycle: 10,
+        hours: vec![Hours::new(0, END, &[(0, 10)]); LIMITS.hours as usize],
+        users: LIMITS.users as u8,
+        permissions: LIMITS.permissions as u8,
+        roles: vec![ALWAYS; LIMITS.roles as usize],
+        user_rows: part(i),
+        permission_rows: part((i + count / 2) % count),
+    };
+    (0..count).map(rota).collect()
 }
 
 /// What `count` counts.

@@ -300,7 +300,7 @@ fn unused_hours() {
 
 #[test]
 fn damaged_rotas() {
-    tallied("damaged_rotas", 3_000, rewriting::damaged).reached((0..=12).chain([20]));
+    tallied("damaged_rotas", 3_000, rewriting::damaged).reached((0..=12).chain([20, 52]));
 }
 
 /// Every length of a rota's bytes, and every byte changed.

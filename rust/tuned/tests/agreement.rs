@@ -8,7 +8,7 @@ use cases::{data, joining, tidying, worst, worst::jumps};
 use reference::edges::Edges;
 use reference::page::{self, Question};
 use reference::policy::{Policy, question};
-use reference::rota::{Rota, Row as RotaRow, TIDY};
+use reference::rota::{Rota, TIDY};
 use reference::service::{Lent, State, serve};
 use reference::table::{Row, Table};
 use reference::{END, Refusal, calendar, rewriting, set};
@@ -173,38 +173,13 @@ fn rows() {
     tally.reached([0, 11, 12, 52]).also_often(&tidying::FAULTS, 500);
 }
 
-/// Any number of rows, of which any one is out of order, or two of them.
 #[test]
 fn each_row_out_of_order() {
     let mut case = Case::new("tuned each_row_out_of_order", 0);
-    let whole = generate::rota_of(&mut case.random, &generate::LIMITS).tidy();
-    let refusal = |rota: &Rota| tuned::rota::Rota::read(&rota.encode()).err().unwrap_or(0);
-    for kind in 0..2 {
-        let with = |rows: &[RotaRow]| {
-            let mut rota = whole.clone();
-            let place = if kind == 0 { &mut rota.user_rows } else { &mut rota.permission_rows };
-            *place = rows.to_vec();
-            rota
-        };
-        let all = if kind == 0 { &whole.user_rows } else { &whole.permission_rows };
-        for count in (0..=70).chain([127, 128, 129, all.len()]) {
-            let rows = &all[..count];
-            assert_eq!(refusal(&with(rows)), 0, "{count} rows");
-            for i in 1..count {
-                let mut swapped = rows.to_vec();
-                swapped.swap(i - 1, i);
-                assert_eq!(refusal(&with(&swapped)), 52, "{count} rows, {i} swapped");
-                let mut repeated = rows.to_vec();
-                repeated[i] = repeated[i - 1];
-                assert_eq!(refusal(&with(&repeated)), 52, "{count} rows, {i} repeated");
-                // Another row is out of range; the first of the two decides.
-                let other = case.random.below(count as u32) as usize;
-                repeated[other].number = 64;
-                let due = if other <= i { 11 + kind } else { 52 };
-                assert_eq!(refusal(&with(&repeated)), due, "{count} rows, {i} and {other}");
-            }
-        }
-    }
+    tidying::each_row_out_of_order(&mut case.random, |rota, refusal| {
+        let bytes = rota.encode();
+        assert_eq!(tuned::rota::Rota::read(&bytes).err().unwrap_or(0), refusal);
+    });
 }
 
 #[test]
@@ -240,6 +215,9 @@ fn tidied() {
     compare_tidied(&mut case, &mut tally, &data::small_rota());
     let most = generate::rota_of(&mut case.random, &generate::LIMITS);
     for rota in [generate::respelled(&mut case.random, &most), most.tidy(), most] {
+        compare_tidied(&mut case, &mut tally, &rota.encode());
+    }
+    for rota in tidying::all_rows() {
         compare_tidied(&mut case, &mut tally, &rota.encode());
     }
     for (_, rota, _) in tidying::worked() {
