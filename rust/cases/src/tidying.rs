@@ -141,6 +141,38 @@ pub fn ladder() -> Vec<(Vec<u8>, Refusal)> {
     all
 }
 
+/// Everything at its limit, and no row twice; the rows are in any order.
+pub fn most_rows(random: &mut Random) -> Rota {
+    let hours_count = LIMITS.hours as u8;
+    let mut rows = |numbers: u32, count: u32| -> Vec<Row> {
+        let mut rows = Vec::new();
+        while rows.len() < count as usize {
+            let (number, role) = (random.below(numbers) as u8, random.below(LIMITS.roles) as u8);
+            let hours = random.between(0, LIMITS.hours) as u8;
+            let row = row(number, role, if hours == hours_count { 255 } else { hours });
+            if !rows.contains(&row) {
+                rows.push(row);
+            }
+        }
+        rows
+    };
+    let user_rows = rows(LIMITS.users, LIMITS.user_rows);
+    let permission_rows = rows(LIMITS.permissions, LIMITS.permission_rows);
+    Rota { user_rows, permission_rows, ..rota_of(random, &LIMITS) }
+}
+
+/// The same with no more than `count` rows of each kind, which repeat.
+pub fn most_repeats(rota: &Rota, count: usize) -> Rota {
+    let repeated = |rows: &[Row]| -> Vec<Row> {
+        rows[..count].iter().copied().cycle().take(rows.len()).collect()
+    };
+    Rota {
+        user_rows: repeated(&rota.user_rows),
+        permission_rows: repeated(&rota.permission_rows),
+        ..rota.clone()
+    }
+}
+
 /// Tidy rotas with any number of rows of either kind, each also with any one row out of order, and
 /// with another one out of range besides; with the refusal that is due.
 pub fn each_row_out_of_order(random: &mut Random, mut test: impl FnMut(&Rota, Refusal)) {

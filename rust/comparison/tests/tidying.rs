@@ -7,7 +7,7 @@ use comparison::ffi;
 use comparison::ffi::rota::RotaRead;
 use comparison::ffi::tidying::{Tidied, tidied, tidy};
 use reference::page::Question;
-use reference::rota::{ANY_ORDER, Rota, Row, TIDY};
+use reference::rota::{ANY_ORDER, Rota, TIDY};
 
 const AREA: [u8; 60] = [0xa5; 60];
 
@@ -115,21 +115,14 @@ fn all_rows() {
 #[test]
 fn at_the_limits() {
     let (mut case, mut tally) = (Case::new("at_the_limits", 0), Tally::new("at_the_limits"));
-    let most = generate::rota_of(&mut case.random, &generate::LIMITS);
+    let most = worked::most_rows(&mut case.random);
     let tidy = most.tidy();
-    let few = |rows: &[Row]| rows[..7].iter().copied().cycle().take(512).collect();
-    let repeats = Rota {
-        user_rows: few(&most.user_rows),
-        permission_rows: few(&most.permission_rows),
-        ..most.clone()
-    };
-    let one = Rota {
-        user_rows: vec![most.user_rows[0]; 512],
-        permission_rows: vec![most.permission_rows[0]; 512],
-        ..most.clone()
-    };
+    assert_eq!((tidy.user_rows.len(), tidy.permission_rows.len()), (512, 512));
+    assert_eq!(tidy.encode().len(), 4_460);
     let in_order = Rota { format: ANY_ORDER, ..tidy.clone() };
-    for rota in [generate::respelled(&mut case.random, &most), most, in_order, tidy, repeats, one] {
+    let [few, one] = [7, 1].map(|count| worked::most_repeats(&most, count));
+    let some = generate::rota_of(&mut case.random, &generate::LIMITS);
+    for rota in [most, in_order, tidy, few, one, some] {
         compare_areas(&mut case, &mut tally, &Lent::new(rota.encode()));
     }
     for which in 0..generate::EDGE_SIZES {

@@ -213,8 +213,9 @@ fn tidied() {
     });
     let mut case = Case::new("tuned tidied at the limits", 0);
     compare_tidied(&mut case, &mut tally, &data::small_rota());
-    let most = generate::rota_of(&mut case.random, &generate::LIMITS);
-    for rota in [generate::respelled(&mut case.random, &most), most.tidy(), most] {
+    let most = tidying::most_rows(&mut case.random);
+    let [few, one] = [7, 1].map(|count| tidying::most_repeats(&most, count));
+    for rota in [few, one, most.tidy(), most] {
         compare_tidied(&mut case, &mut tally, &rota.encode());
     }
     for rota in tidying::all_rows() {
