@@ -30,7 +30,7 @@
  * numbered from 0. Bit i of a set stands for number i.
  *
  * A rota is of format 1, where rows come in any order and may repeat, or of format 3, a tidy rota, where the rows of each kind ascend by role,
- * then by volunteer or right, then by the byte of their hours, and none repeats. Whatever takes the one takes the other.
+ * then by volunteer or right, then by the byte of their hours (always last), and none repeats. Whatever takes the one takes the other.
  *
  * Refusals, by operation, in the order in which they are looked for; softlode_meaning says what each number means:
  *

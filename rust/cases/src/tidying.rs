@@ -54,7 +54,9 @@ impl Due {
 }
 
 /// Rows of one kind, each by its bytes, and what is due for them in format 3 and in format 1.
-const ROWS: [(&str, &[[u8; 3]], [Due; 2]); 19] = [
+type Rows = (&'static str, &'static [[u8; 3]], [Due; 2]);
+
+const ROWS: [Rows; 19] = [
     ("no row", &[], [Due::Fine; 2]),
     ("one row, the last that there can be", &[[2, 2, 255]], [Due::Fine; 2]),
     ("the hours ascend to always", &[[0, 0, 0], [0, 0, 1], [0, 0, 255]], [Due::Fine; 2]),
