@@ -1,6 +1,6 @@
 /*
- * A host of the library, as a server would be one: it loads a rota, rewrites it to its table, keeps one service record through a week of
- * the calendar, and shows what refusals look like. Every call is made on the rota and on the table, each with a record of its own, and the
+ * A host of the library, as a server would be one: it loads a rota, rewrites it to its table, tidies it, keeps one service record through a week
+ * of the calendar, and shows what refusals look like. Every call is made on the rota and on the table, each with a record of its own, and the
  * two must agree. rust/softlode/examples/host.rs does the same by the wrapper; data/week.host is what both print for data/week.rota.
  *
  *     host ROTA
@@ -10,12 +10,14 @@
 #include <inttypes.h>
 #include <stdio.h>
 #include <stdlib.h>
+#include <string.h>
 
 #include "softlode.h"
 
 /* rust/softlode/src/ffi.rs tests the same numbers. */
-_Static_assert(sizeof(softlode_rota) == 32 && offsetof(softlode_rota, right_rows) == 28, "softlode_rota");
+_Static_assert(sizeof(softlode_rota) == 36 && offsetof(softlode_rota, format) == 32, "softlode_rota");
 _Static_assert(sizeof(softlode_table) == 28 && offsetof(softlode_table, rows) == 24, "softlode_table");
+_Static_assert(sizeof(softlode_tidied) == 16 && offsetof(softlode_tidied, length) == 8, "softlode_tidied");
 _Static_assert(sizeof(softlode_written) == 24 && offsetof(softlode_written, length) == 16, "softlode_written");
 _Static_assert(sizeof(softlode_told) == 12 && offsetof(softlode_told, value) == 8, "softlode_told");
 _Static_assert(sizeof(softlode_next) == 12 && offsetof(softlode_next, minute) == 8, "softlode_next");
@@ -97,7 +99,24 @@ static void show_date(uint32_t minute) {
 }
 
 static void show_refusal(const char *what, uint32_t refusal) {
-    printf("%srefused %" PRIu32 ": %s\n", what, refusal, softlode_meaning(refusal));
+    if (refusal == 0)
+        printf("%saccepted\n", what);
+    else
+        printf("%srefused %" PRIu32 ": %s\n", what, refusal, softlode_meaning(refusal));
+}
+
+/* The rota with its rows in order, as two coordinators compare theirs. Its table must be the same, and tidied again it must be the same. */
+static void show_tidy(const struct host *host) {
+    static uint8_t tidy[FILE_LIMIT], again[FILE_LIMIT], area[AREA_SIZE];
+    softlode_tidied tidied = softlode_rota_tidy(host->rota, host->rota_length, tidy, sizeof tidy);
+    softlode_rota counts = softlode_rota_read(tidy, tidied.length);
+    softlode_written written = softlode_rewrite(tidy, tidied.length, area, sizeof area);
+    if (counts.format != 3 || written.length != host->table_length || memcmp(area, host->table, host->table_length) != 0)
+        fail(1, "the tidy rota has another table", "");
+    if (softlode_rota_tidy(tidy, tidied.length, again, sizeof again).length != tidied.length || memcmp(again, tidy, tidied.length) != 0)
+        fail(1, "the tidy rota is tidied to another", "");
+    printf("tidy rota: %" PRIu32 " + %" PRIu32 " rows, %" PRIu64 " bytes, with the same table\n", counts.volunteer_rows, counts.right_rows,
+           tidied.length);
 }
 
 /* An hour begins: whoever holds a right now comes, and asks for every right; even numbers leave at noon. */
@@ -230,7 +249,12 @@ static void show_refusals(struct host *host, uint8_t *rota) {
     rota[0] ^= 0xff;
     show_refusal("the rota with another first byte: ", softlode_rota_read(rota, host->rota_length).refusal);
     rota[0] ^= 0xff;
+    uint8_t format = rota[0];
+    rota[0] = 3;
+    show_refusal("the rota as a tidy one: ", softlode_rota_read(rota, host->rota_length).refusal);
+    rota[0] = format;
     show_refusal("an area of 8 bytes: ", softlode_rewrite(rota, host->rota_length, small, sizeof small).refusal);
+    show_refusal("an area of 8 bytes to tidy in: ", softlode_rota_tidy(rota, host->rota_length, small, sizeof small).refusal);
     show_refusal("the table without its last byte: ", softlode_table_read(host->table, host->table_length - 1).refusal);
     show_refusal("the next use by volunteer 256: ", softlode_table_next(host->table, host->table_length, 256, 0, 0).refusal);
     show_refusal("the board of minute 210379680: ", softlode_table_board(host->table, host->table_length, 210379680).refusal);
@@ -252,10 +276,11 @@ int main(int argc, char **argv) {
         return 1;
     }
     host.table_length = written.length;
-    printf("rota: cycle %" PRIu32 ", %" PRIu32 " hours, %" PRIu32 " volunteers, %" PRIu32 " rights, %" PRIu32 " roles, %" PRIu32 " + %" PRIu32
-           " rows\n",
-           counts.cycle, counts.hours, counts.volunteers, counts.rights, counts.roles, counts.volunteer_rows, counts.right_rows);
+    printf("rota: format %" PRIu32 ", cycle %" PRIu32 ", %" PRIu32 " hours, %" PRIu32 " volunteers, %" PRIu32 " rights, %" PRIu32
+           " roles, %" PRIu32 " + %" PRIu32 " rows\n",
+           counts.format, counts.cycle, counts.hours, counts.volunteers, counts.rights, counts.roles, counts.volunteer_rows, counts.right_rows);
     printf("table: %" PRIu32 " derived roles, %" PRIu32 " rows, %" PRIu64 " bytes\n", written.derived, written.rows, written.length);
+    show_tidy(&host);
 
     uint32_t monday = softlode_minute(2024, 2, 26, 0, 0).minute;
     for (uint32_t hour = 0; hour < 7 * 24; hour++) spend_hour(&host, counts, monday + HOUR * hour);

@@ -22,15 +22,21 @@
  * - Calls on different records (and on different output areas and lists of questions) may run at the same time, on any threads. There is no
  *   global state. Calls on one record come one after the other, asks too: an ask leaves the record's values, but may store them again; so
  *   may a page the other fields of its questions.
- * - Stack: softlode_rewrite takes less than 1 MiB, whatever the rota; every other call less than 4 KiB.
+ * - Stack: softlode_rewrite takes less than 1 MiB and softlode_rota_tidy less than 32 KiB, whatever the rota; every other call less than
+ *   4 KiB.
  * - Every number that is passed has at least 32 bits, so that 256 is refused and never wraps to 0.
  *
  * Minutes count from 0, which is 00:00 on Monday 1 January 2001, to 210379679, in 31 December 2400. Volunteers, rights and roles are
  * numbered from 0. Bit i of a set stands for number i.
  *
+ * A rota is of format 1, where rows come in any order and may repeat, or of format 3, a tidy rota, where the rows of each kind ascend by role,
+ * then by volunteer or right, then by the byte of their hours (always last), and none repeats. Whatever takes the one takes the other.
+ *
  * Refusals, by operation, in the order in which they are looked for; softlode_meaning says what each number means:
  *
- *   reading a rota     1, 2, 3, 4; then each hours record in turn 5 (its first 10 bytes), 6, 7, 5 (its pairs), 8; then 9, 10, 11, 12
+ *   reading a rota     1, 2, 3, 4; then each hours record in turn 5 (its first 10 bytes), 6, 7, 5 (its pairs), 8; then 9, 10; then each
+ *                      volunteer row in turn 11, 52; then each right row in turn 12, 52
+ *   tidying            those of a rota, then 20
  *   rewriting          those of a rota, then 20
  *   reading a table    21, 22, 23, 24, 25; then each derived role in turn 26; then each row in turn 27, 28
  *   a question         those of the bytes, then 33, 34, 35
@@ -50,7 +56,7 @@
 extern "C" {
 #endif
 
-/* The counts of an accepted rota's header. */
+/* The counts of an accepted rota's header, and its format. */
 typedef struct softlode_rota {
     uint32_t refusal;
     uint32_t cycle;       /* minutes, 1 to 40320 */
@@ -60,6 +66,7 @@ typedef struct softlode_rota {
     uint32_t roles;
     uint32_t volunteer_rows;
     uint32_t right_rows;
+    uint32_t format;      /* 1, or 3 for a tidy rota */
 } softlode_rota;
 
 /* The counts of an accepted table's header. */
@@ -72,6 +79,12 @@ typedef struct softlode_table {
     uint32_t derived;     /* derived roles */
     uint32_t rows;
 } softlode_table;
+
+/* A tidy rota that was written: the first `length` bytes of the output area. */
+typedef struct softlode_tidied {
+    uint32_t refusal;
+    uint64_t length;
+} softlode_tidied;
 
 /* A table that was written: its first `length` bytes of the output area. */
 typedef struct softlode_written {
@@ -144,8 +157,19 @@ typedef struct softlode_minute_number {
     uint32_t minute;
 } softlode_minute_number;
 
-/* Reads a rota: its counts, or 1 to 12. */
+/* Reads a rota: its counts and its format, or 1 to 12, 52. */
 softlode_rota softlode_rota_read(const uint8_t *rota, size_t length);
+
+/*
+ * Tidies a rota: writes it in format 3, at the start of the output area. The rows of each kind are put in order, each is written once, and they
+ * are counted anew; all else is copied. Bytes of the area past the tidy rota's length stay as they are. The rota's refusals, or 20 where the
+ * tidy rota is longer than the area; then the whole area stays as it is. The rota's own length is always enough.
+ *
+ * Two rotas with the same header (format and row counts aside), hours records, roles and sets of rows become the same bytes, whatever the order
+ * of their rows, so that what two coordinators send can be compared. A tidy rota becomes the same bytes again. Every question has the same
+ * answer before and after, and the table is the same.
+ */
+softlode_tidied softlode_rota_tidy(const uint8_t *rota, size_t length, uint8_t *area, size_t size);
 
 /* Reads a table: its counts, or 21 to 28. Lend exactly the bytes of the table, not the whole area that it was written to. */
 softlode_table softlode_table_read(const uint8_t *table, size_t length);
@@ -176,8 +200,8 @@ softlode_next softlode_table_next(const uint8_t *table, size_t length, uint32_t 
 softlode_board softlode_table_board(const uint8_t *table, size_t length, uint32_t minute);
 
 /*
- * Rewrites a rota to its table, at the start of the output area. Bytes of the area past the table's length stay as they are. 1 to 12, or 20
- * where 16 + 17 * derived + 16 * rows exceeds the size of the area; then the whole area stays as it is. 35212336 bytes are enough for every
+ * Rewrites a rota to its table, at the start of the output area. Bytes of the area past the table's length stay as they are. The rota's refusals,
+ * or 20 where 16 + 17 * derived + 16 * rows exceeds the size of the area; then the whole area stays as it is. 35212336 bytes are enough for every
  * rota (32 roles, 65 eras and 513 cells at the most), and 65536 for most. Neighbouring rows of one derived role and one era that touch are
  * written as one, and `rows` counts them so; a table in which they are not joined means the same, and is read as well.
  */
@@ -215,7 +239,7 @@ static inline const char *softlode_meaning(uint32_t refusal) {
     switch (refusal) {
     case 0: return "";
     case 1: return "the rota is shorter than its header";
-    case 2: return "this is not a rota of format 1";
+    case 2: return "this is not a rota of format 1 or 3";
     case 3: return "the rota's cycle is not 1 to 40320 minutes";
     case 4: return "a count of the rota is over its limit";
     case 5: return "an hours record is cut off";
@@ -226,7 +250,7 @@ static inline const char *softlode_meaning(uint32_t refusal) {
     case 10: return "a role names hours that are not there";
     case 11: return "a volunteer row names a volunteer, role or hours that are not there";
     case 12: return "a right row names a right, role or hours that are not there";
-    case 20: return "the area is too small for the table";
+    case 20: return "the area is too small for the table or the tidy rota";
     case 21: return "the table is shorter than its header";
     case 22: return "this is not a table of format 2";
     case 23: return "the table's cycle is not 1 to 40320 minutes";
@@ -245,6 +269,7 @@ static inline const char *softlode_meaning(uint32_t refusal) {
     case 44: return "the volunteer's session is not open";
     case 50: return "the date or time does not exist or is not in 2001 to 2400";
     case 51: return "a page has more than 256 questions";
+    case 52: return "a row of a format 3 rota is not above the row before it";
     default: return "a number that this version does not know";
     }
 }

@@ -3,7 +3,7 @@
 //! comes to, and stores the worst of all where it is told to.
 //!
 //! What is timed is one of: rewrite, into 40 MB; refuse, the same into 64 KiB, where that gives
-//! 20; read, question, rota-page, rota-minute, rota-advance, on the rota; table-read,
+//! 20; tidy, read, question, rota-page, rota-minute, rota-advance, on the rota; table-read,
 //! table-question, table-page, table-next, table-board, table-minute, table-advance, on its table. A
 //! page has 256 questions, each for a minute of its own. Everyone is open at first, and an advance is
 //! of one minute, or over 400 years.
@@ -116,6 +116,7 @@ impl Search {
         let on_rota = |state, call| ffi::service::on_rota(rota, state, call);
         let on_table = |state, call| ffi::service::on_table(table, state, call);
         match self.what.as_str() {
+            "tidy" => quickest(times, || ffi::tidying::tidy(rota, &mut area[..SMALL])),
             "read" => quickest(times, || ffi::rota::read(rota)),
             "question" => {
                 quickest(times, || questions(|u, p, t| ffi::rota::question(rota, u, p, t)))

@@ -47,6 +47,8 @@ pub struct Input {
     pub name: &'static str,
     /// None with a table that no rewriting makes.
     pub rewriting: Option<Rewriting>,
+    /// The rota in format 3; no bytes where there is none.
+    pub tidy: Vec<u8>,
     pub table: Vec<u8>,
     pub derived: usize,
     pub rows: usize,
@@ -77,7 +79,7 @@ impl Input {
         assert!(area == written, "the two tables differ");
         let table = if rows == Rows::Joined { joined } else { unjoined };
         let input = Input::of_table(name, &table, |random| rota_minute(random, &rota));
-        Input { rewriting: Some(rewriting), ..input }
+        Input { rewriting: Some(rewriting), tidy: rota.tidy().encode(), ..input }
     }
 
     /// Half of the minutes are where answers change, half are any.
@@ -94,6 +96,7 @@ impl Input {
         Input {
             name,
             rewriting: None,
+            tidy: Vec::new(),
             table: table.encode(),
             derived: table.derived.len(),
             rows: table.rows.len(),

@@ -1,11 +1,12 @@
 //! Times each operation of the proved code against the quick implementation, on the same inputs in
 //! one run, and prints the ratio. Readers are also shown beside a plain pass over the same bytes.
-//! At the end all stands in one table; boards beside single questions, and advances that take long,
-//! in tables of their own.
+//! At the end all stands in one table; tidying, boards beside single questions, and advances that take
+//! long, in tables of their own.
 
 mod boards;
 mod inputs;
 mod jumps;
+mod tidying;
 mod timing;
 
 use std::hint::black_box;
@@ -120,6 +121,9 @@ fn rota(input: &Input, report: &mut Report) {
     let (name, Some(bytes)) = (input.name, input.rota()) else { return };
     let times = time(|_| ffi::rota::read(black_box(bytes)), |_| Rota::read(black_box(bytes)));
     report.print_reader("rota read", name, bytes, times);
+    let tidy = &input.tidy[..];
+    let times = time(|_| ffi::rota::read(black_box(tidy)), |_| Rota::read(black_box(tidy)));
+    report.print_reader("rota read, tidy", name, tidy, times);
     let times = time(
         |i| {
             let Question { user, permission, minute } = input.question(i);
@@ -318,10 +322,14 @@ fn main() {
             inputs.iter().for_each(|input| group(input, &mut report));
         }
     }
+    let tidied = is_chosen("tidy").then(|| tidying::table(&mut report));
     if is_chosen("calendar") {
         dates(&mut report);
     }
     report.print_table(&inputs);
+    if let Some(tidied) = tidied {
+        print!("{tidied}");
+    }
     if is_chosen("boards") {
         boards::print_beside_questions(&inputs);
     }

@@ -159,9 +159,15 @@ impl Tally {
 
     /// Asks the same of what else was counted.
     pub fn also(&self, counted: &[&str]) {
+        self.also_often(counted, 1);
+    }
+
+    /// Asks that each of these was counted at least so many times.
+    pub fn also_often(&self, counted: &[&str], least: u64) {
         if is_whole_run() {
             for what in counted {
-                assert!(self.counted(what) > 0, "{}: {what} not reached", self.name);
+                let times = self.counted(what);
+                assert!(times >= least, "{}: {what} reached {times} times", self.name);
             }
         }
     }

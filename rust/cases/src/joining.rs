@@ -22,6 +22,7 @@ const CYCLE: u16 = 10;
 /// A cycle of 10 minutes, these hours, and one role in which users 0, 1 and so on have these hours.
 fn worked(hours: &[Hours], users: &[HoursRef]) -> Worked {
     let rota = Rota {
+        format: rota::ANY_ORDER,
         cycle: CYCLE,
         hours: hours.to_vec(),
         users: users.len() as u8,

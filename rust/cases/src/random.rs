@@ -37,6 +37,13 @@ impl Random {
         from[self.below(from.len() as u32) as usize]
     }
 
+    /// Puts them in any order.
+    pub fn shuffle<T>(&mut self, items: &mut [T]) {
+        for last in (1..items.len()).rev() {
+            items.swap(last, self.between(0, last as u32) as usize);
+        }
+    }
+
     pub fn byte(&mut self) -> u8 {
         self.bits() as u8
     }

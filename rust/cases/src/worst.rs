@@ -4,7 +4,7 @@
 pub mod jumps;
 
 use reference::hours::HoursRef;
-use reference::rota::{Rota, Row};
+use reference::rota::{ANY_ORDER, Rota, Row};
 
 use crate::generate::{LIMITS, cut_hours, longest_first};
 use crate::random::Random;
@@ -24,6 +24,7 @@ pub struct Cut {
 impl Cut {
     pub fn rota(&self) -> Rota {
         Rota {
+            format: ANY_ORDER,
             cycle: LIMITS.cycle,
             hours: cut_hours(self.hours, &self.eras, &self.cells),
             users: LIMITS.users as u8,

@@ -10,7 +10,7 @@ use std::process::ExitCode;
 use std::time::Instant;
 
 use cases::case::{Case, Tally, seed, setting};
-use comparison::compare::{calendar, hours, page, rewriting, rota, service, table};
+use comparison::compare::{calendar, hours, page, rewriting, rota, service, table, tidying};
 
 const DEFAULT_CASES: u64 = 10_000_000;
 
@@ -25,9 +25,10 @@ const fn kind(name: &'static str, share: u64, compare: fn(&mut Case, &mut Tally)
     Kind { name, share, compare }
 }
 
-const KINDS: [Kind; 26] = [
-    kind("rota well formed", 165, rota::well_formed),
-    kind("rota several faults", 195, rota::several_faults),
+const KINDS: [Kind; 32] = [
+    kind("rota well formed", 150, rota::well_formed),
+    kind("rota several faults", 160, rota::several_faults),
+    kind("rota damaged rows", 20, rota::damaged_rows),
     kind("rota any bytes", 50, rota::any_bytes),
     kind("table by hand", 100, table::by_hand),
     kind("table next uses", 30, table::next_uses),
@@ -37,12 +38,17 @@ const KINDS: [Kind; 26] = [
     kind("table rewritten", 30, table::rewritten),
     kind("table several faults", 150, table::several_faults),
     kind("table huge counts", 10, table::huge_counts),
+    kind("tidying any size", 5, tidying::any_size),
+    kind("tidying small", 10, tidying::small),
+    kind("tidying damaged", 10, tidying::damaged),
+    kind("tidying the same rota", 3, tidying::same_rota),
     kind("rewriting any size", 3, rewriting::any_size),
     kind("rewriting small", 28, rewriting::small),
     kind("rewriting joined and unjoined", 2, rewriting::joined_and_unjoined),
     kind("rewriting unused hours", 7, rewriting::unused_hours),
     kind("rewriting damaged", 20, rewriting::damaged),
     kind("service list", 10, service::list),
+    kind("service list on a tidy rota", 2, service::list_on_a_tidy_rota),
     kind("service odd states", 20, service::odd_states),
     kind("service table by hand", 10, service::table_made_by_hand),
     kind("service jumps", 15, service::jumps),
@@ -56,7 +62,7 @@ const KINDS: [Kind; 26] = [
 
 /// Every refusal that there is.
 fn refusals() -> impl Iterator<Item = u32> {
-    (1..=12).chain(20..=28).chain(33..=35).chain(40..=44).chain([50, 51])
+    (1..=12).chain(20..=28).chain(33..=35).chain(40..=44).chain(50..=52)
 }
 
 /// What the cases of these numbers reached, and how many of them disagreed. Each of these has

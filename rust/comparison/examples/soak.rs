@@ -1,7 +1,7 @@
 //! One service on a rota and one on its table, through all 400 years by irregular advances, with
 //! opens, asks and closes between: both agree with the plain machine at every call. First the rota
 //! of a week by short advances; then many times by jumps of a minute to decades, on that rota and on
-//! others.
+//! others, once in four times tidied.
 //! It prints what was done. SOFTLODE_SEED takes other lists of calls, and SOFTLODE_CASES sets how
 //! many there are by jumps.
 
@@ -109,7 +109,8 @@ fn main() {
     let (mut tally, start) = (Tally::new("soak by jumps"), Instant::now());
     let mut lists = 0;
     cases("soak by jumps", JUMPING_LISTS, |case| {
-        let both = Both::new(jumped_rota(&mut case.random));
+        let rota = jumped_rota(&mut case.random);
+        let both = if case.random.one_in(4) { Both::tidied(rota) } else { Both::new(rota) };
         soak(case, &mut tally, &both, far_minute);
         lists += 1;
     });

@@ -4,6 +4,8 @@
 pub mod calendar;
 pub mod hours;
 
+#[cfg(feature = "rewriting")]
+pub mod area;
 #[cfg(feature = "rota")]
 pub mod asked;
 #[cfg(feature = "table")]
@@ -16,3 +18,5 @@ pub mod rota;
 pub mod service;
 #[cfg(feature = "table")]
 pub mod table;
+#[cfg(feature = "rewriting")]
+pub mod tidying;

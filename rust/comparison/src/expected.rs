@@ -13,6 +13,8 @@ pub mod rota;
 pub mod service;
 #[cfg(feature = "table")]
 pub mod table;
+#[cfg(feature = "rewriting")]
+pub mod tidying;
 
 /// Where a number of `width` bytes at `at` lies within `len` bytes, and the width is one of ours.
 fn place(len: usize, at: usize, width: u32) -> Option<std::ops::Range<usize>> {

@@ -11,6 +11,8 @@ pub mod rota;
 pub mod service;
 #[cfg(feature = "table")]
 pub mod table;
+#[cfg(feature = "rewriting")]
+pub mod tidying;
 
 #[repr(C)]
 #[derive(Clone, Copy, Debug, PartialEq, Eq)]

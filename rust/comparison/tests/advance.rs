@@ -6,7 +6,7 @@ use cases::{data, generate, worst};
 use comparison::compare::service::{self, Both, Run, in_one_and_in_two, jump};
 use reference::hours::{Hours, HoursRef};
 use reference::policy::Policy;
-use reference::rota::{Rota, Row};
+use reference::rota::{ANY_ORDER, Rota, Row};
 use reference::service::{Call, State};
 use reference::{END, set};
 
@@ -14,6 +14,7 @@ use reference::{END, set};
 /// is there always.
 fn rota(cycle: u16, hours: Vec<Hours>, rows: &[(u8, u8)]) -> Rota {
     Rota {
+        format: ANY_ORDER,
         cycle,
         hours,
         users: 4,

@@ -96,7 +96,10 @@ fn stored_rotas() {
     let (case, mut tally) =
         (Case::new("listed stored_rotas", 0), Tally::new("listed stored_rotas"));
     assert_eq!(printed(&data::small_rota(), Feed::AtOnce), data::small_listing());
-    for input in [data::small_rota(), generate::weekly_rota().encode()] {
+    let tidy = [&[3], &data::small_rota()[1..]].concat();
+    assert_eq!(printed(&tidy, Feed::AtOnce), data::small_listing());
+    let weekly = generate::weekly_rota();
+    for input in [data::small_rota(), weekly.encode(), weekly.tidy().encode()] {
         for size in [1, 2, 3, 7, 12, 53, 4_096] {
             compare_fed(&case, &mut tally, &input, Feed::Pieces(size));
         }
@@ -220,5 +223,5 @@ fn damaged_rotas() {
         let how = any_feed(&mut case.random);
         compare_fed(case, tally, &input, how);
     });
-    tally.reached(0..=12);
+    tally.reached((0..=12).chain([52]));
 }

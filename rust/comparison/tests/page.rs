@@ -92,7 +92,7 @@ const ALSO: [&str; 4] = ["yes", "empty page", "full page", "too long and bad byt
 
 #[test]
 fn pages_on_rotas() {
-    let reached = (0..=12).chain(33..=35).chain([51]);
+    let reached = (0..=12).chain(33..=35).chain([51, 52]);
     tallied("pages on rotas", 6_000, page::on_rotas).reached(reached).also(&ALSO);
 }
 

@@ -12,7 +12,7 @@ use comparison::ffi;
 use comparison::ffi::rewriting::Rewritten;
 use reference::END;
 use reference::hours::{Hours, HoursRef};
-use reference::rota::{Rota, Row};
+use reference::rota::{ANY_ORDER, Rota, Row};
 use reference::table::Table;
 
 fn small() -> Rota {
@@ -130,6 +130,7 @@ fn doctors(count: u8) -> Rota {
         Hours::new(0, END, &pairs)
     });
     Rota {
+        format: ANY_ORDER,
         cycle: 7 * DAY,
         hours: hours.collect(),
         users: count,
@@ -224,6 +225,7 @@ fn limits() {
         for (begin, end) in [(0, END), (0, 1), (END - 1, END), (END - 2, END - 1), (1, END)] {
             for (offset, length) in [(0, cycle), (0, 1), (cycle - 1, 1)] {
                 let rota = Rota {
+                    format: ANY_ORDER,
                     cycle,
                     hours: vec![Hours::new(begin, end, &[(offset, length)])],
                     users: 64,
@@ -244,6 +246,7 @@ fn limits() {
     }
     // Everything always, to the last bit: one row and both sets full.
     let whole_time = Rota {
+        format: ANY_ORDER,
         cycle: 40_320,
         hours: vec![Hours::new(0, END, &[(0, 40_320)])],
         users: 64,
@@ -297,7 +300,7 @@ fn unused_hours() {
 
 #[test]
 fn damaged_rotas() {
-    tallied("damaged_rotas", 3_000, rewriting::damaged).reached((0..=12).chain([20]));
+    tallied("damaged_rotas", 3_000, rewriting::damaged).reached((0..=12).chain([20, 52]));
 }
 
 /// Every length of a rota's bytes, and every byte changed.

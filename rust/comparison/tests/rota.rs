@@ -1,7 +1,7 @@
 //! Rotas: read, asked, and asked who holds anything; well formed and damaged.
 
 use cases::case::{Case, Tally, tallied};
-use cases::{data, generate};
+use cases::{data, generate, tidying};
 use comparison::compare::asked::{self, compare_all, compare_question, compare_read};
 use comparison::compare::rota;
 use comparison::ffi;
@@ -121,6 +121,7 @@ fn counts_of_0_alone_and_together() {
     for which in 0..generate::EDGE_SIZES {
         let mut case = Case::new("counts_of_0_alone_and_together", which.into());
         let rota = generate::rota_of(&mut case.random, &generate::edge_sizes(which));
+        compare_all(&mut case, &mut tally, &Lent::new(rota.tidy().encode()), &rota, 10);
         let lent = Lent::new(rota.encode());
         compare_all(&mut case, &mut tally, &lent, &rota, 40);
         for len in [0, 11, 12, lent.bytes.len() - 1] {
@@ -164,12 +165,21 @@ fn every_length() {
 #[test]
 fn every_byte_changed() {
     tallied("every_byte_changed", 150, asked::every_byte_changed::<Rota>)
-        .reached((0..=0).chain(2..=12));
+        .reached((0..=0).chain(2..=12).chain([52]));
 }
 
 #[test]
 fn several_faults() {
-    tallied("several_faults", 40_000, rota::several_faults).reached((0..=12).chain([33, 34, 35]));
+    tallied("several_faults", 40_000, rota::several_faults)
+        .reached((0..=12).chain([33, 34, 35, 52]));
+}
+
+/// Out of range and out of order, before and after each other.
+#[test]
+fn damaged_rows() {
+    tallied("damaged_rows", 20_000, rota::damaged_rows)
+        .reached([0, 11, 12, 52])
+        .also_often(&tidying::FAULTS, 500);
 }
 
 #[test]

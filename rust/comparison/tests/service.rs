@@ -143,7 +143,16 @@ fn tables_made_by_hand() {
 #[test]
 fn damaged_bytes() {
     tallied("damaged_bytes", 8_000, service::damaged)
-        .reached((0..=12).chain(21..=28).chain([34, 40, 43, 44]));
+        .reached((0..=12).chain(21..=28).chain([34, 40, 43, 44, 52]));
+}
+
+/// The machine has the rota as a sender spelled it, the services its tidy form and the table of
+/// that.
+#[test]
+fn lists_on_tidy_rotas() {
+    tallied("lists_on_tidy_rotas", 300, service::list_on_a_tidy_rota)
+        .reached([0, 33, 34, 35, 41, 42, 43, 44])
+        .also(&["yes", "no", "closed by them", "tidied"]);
 }
 
 /// Which bytes they are comes with the call: the other kind is refused by its format, a table

@@ -6,7 +6,7 @@
 use std::path::Path;
 
 use reference::hours::{Hours, HoursRef};
-use reference::rota::{Rota, Row};
+use reference::rota::{ANY_ORDER, Rota, Row};
 use reference::{END, calendar, listing, rewriting};
 
 const DAY: u16 = 1_440;
@@ -93,6 +93,7 @@ fn rows(all: &[(u8, &[(u8, HoursRef)])]) -> Vec<Row> {
 
 fn week() -> Rota {
     Rota {
+        format: ANY_ORDER,
         cycle: 7 * DAY,
         hours: hours(),
         users: 20,
@@ -164,6 +165,8 @@ fn main() -> std::io::Result<()> {
 
 #[cfg(test)]
 mod tests {
+    use reference::rota::TIDY;
+
     use super::*;
 
     #[test]
@@ -177,5 +180,15 @@ mod tests {
     #[test]
     fn the_rota_is_accepted_as_it_is() {
         assert_eq!(Rota::parse(&week().encode()), Ok(week()));
+    }
+
+    /// As data/week.host has it: no row repeats, and the order is another.
+    #[test]
+    fn the_tidy_rota_is_as_long() {
+        let tidy = week().tidy();
+        assert_eq!((tidy.user_rows.len(), tidy.permission_rows.len()), (41, 15));
+        assert_eq!(tidy.encode().len(), 446);
+        assert_eq!(rewriting::table(&tidy), rewriting::table(&week()));
+        assert_eq!(Rota::parse(&Rota { format: TIDY, ..week() }.encode()), Err(52));
     }
 }

@@ -1,5 +1,5 @@
-//! A plain implementation of the rota, its flat table, the rewriting from one to the other,
-//! the service over both, the calendar and the listing.
+//! A plain implementation of the rota, its tidying, its flat table, the rewriting from one to the
+//! other, the service over both, the calendar and the listing.
 //!
 //! It is written for reading and for comparison: every rule is spelled out where it applies,
 //! and nothing is shared with the code that it is compared with.
@@ -19,6 +19,7 @@ pub mod rota;
 pub mod service;
 pub mod set;
 pub mod table;
+pub mod tidying;
 
 /// E: the minute after the last one.
 pub const END: u32 = 210_379_680;

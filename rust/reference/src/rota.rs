@@ -7,7 +7,10 @@ use crate::policy::{self, Policy};
 use crate::set;
 use crate::{CYCLE_LIMIT, Refusal};
 
-const FORMAT: u16 = 1;
+/// The format in which rows come in any order and may repeat.
+pub const ANY_ORDER: u16 = 1;
+/// The format in which the rows of each kind strictly ascend: a tidy rota.
+pub const TIDY: u16 = 3;
 const HEADER_SIZE: usize = 12;
 const HOURS_LIMIT: u8 = 32;
 const USER_LIMIT: u8 = 64;
@@ -28,10 +31,17 @@ impl Row {
     pub fn new(number: u8, role: u8, hours: HoursRef) -> Row {
         Row { number, role, hours }
     }
+
+    /// By what rows ascend: the role, then the number, then the hours as their byte, so that always
+    /// comes last. It is not the order of the bytes.
+    pub fn place(&self) -> (u8, u8, u8) {
+        (self.role, self.number, self.hours.to_byte())
+    }
 }
 
 #[derive(Clone, Debug, PartialEq, Eq)]
 pub struct Rota {
+    pub format: u16,
     pub cycle: u16,
     pub hours: Vec<Hours>,
     pub users: u8,
@@ -47,7 +57,8 @@ impl Rota {
         if bytes.len() < HEADER_SIZE {
             return Err(1);
         }
-        if u16_at(bytes, 0) != FORMAT {
+        let format = u16_at(bytes, 0);
+        if format != ANY_ORDER && format != TIDY {
             return Err(2);
         }
         let cycle = u16_at(bytes, 2);
@@ -92,27 +103,32 @@ impl Rota {
             .map(|&byte| HoursRef::from_byte(byte, hours.len()))
             .collect::<Option<Vec<_>>>()
             .ok_or(10u32)?;
-        let rows = |bytes: &[u8], limit: u8| {
-            bytes
-                .chunks_exact(3)
-                .map(|row| {
-                    let reference = HoursRef::from_byte(row[2], hours.len())?;
-                    (row[0] < limit && row[1] < role_count).then_some(Row {
-                        number: row[0],
-                        role: row[1],
-                        hours: reference,
-                    })
-                })
-                .collect::<Option<Vec<_>>>()
+        // Each row in turn: first whether its numbers are there, then whether it is above the one
+        // before.
+        let rows = |bytes: &[u8], limit: u8, out_of_range: Refusal| {
+            let mut rows: Vec<Row> = Vec::new();
+            for row in bytes.chunks_exact(3) {
+                let reference = HoursRef::from_byte(row[2], hours.len()).ok_or(out_of_range)?;
+                let row = Row::new(row[0], row[1], reference);
+                if row.number >= limit || row.role >= role_count {
+                    return Err(out_of_range);
+                }
+                let is_above = rows.last().is_none_or(|before| before.place() < row.place());
+                if format == TIDY && !is_above {
+                    return Err(52);
+                }
+                rows.push(row);
+            }
+            Ok(rows)
         };
-        let user_rows = rows(user_bytes, users).ok_or(11u32)?;
-        let permission_rows = rows(permission_bytes, permissions).ok_or(12u32)?;
-        Ok(Rota { cycle, hours, users, permissions, roles, user_rows, permission_rows })
+        let user_rows = rows(user_bytes, users, 11)?;
+        let permission_rows = rows(permission_bytes, permissions, 12)?;
+        Ok(Rota { format, cycle, hours, users, permissions, roles, user_rows, permission_rows })
     }
 
     pub fn encode(&self) -> Vec<u8> {
         let mut out = Vec::new();
-        out.extend(FORMAT.to_le_bytes());
+        out.extend(self.format.to_le_bytes());
         out.extend(self.cycle.to_le_bytes());
         out.push(self.hours.len() as u8);
         out.push(self.users);

@@ -4,11 +4,11 @@ use std::collections::{BTreeMap, BTreeSet, HashSet};
 
 use cases::case::Tally;
 use cases::random::Random;
-use cases::{generate, joining};
+use cases::{generate, joining, tidying};
 use reference::edges::Edges;
 use reference::policy::{Policy, question, staying_at};
 use reference::rewriting::{self, touch};
-use reference::rota::Rota;
+use reference::rota::{self, Rota, TIDY};
 use reference::service::{Call, Lent, Reply, State, serve, step};
 use reference::table::{Row, Table};
 use reference::{END, set};
@@ -48,7 +48,9 @@ fn generated_rotas_and_tables_are_well_formed() {
             2 => generate::touching_rota(&mut random),
             _ => generate::rota_of(&mut random, &generate::edge_sizes(case % generate::EDGE_SIZES)),
         };
-        assert_eq!(Rota::parse(&rota.encode()), Ok(rota), "case {case}");
+        assert_eq!(Rota::parse(&rota.encode()), Ok(rota.clone()), "case {case}");
+        let respelled = generate::respelled(&mut random, &rota);
+        assert_eq!(Rota::parse(&respelled.encode()), Ok(respelled), "case {case}");
         let table = match case % 4 {
             0 => generate::small_table(&mut random),
             1 => generate::relay_table(&mut random),
@@ -321,6 +323,59 @@ fn joined_and_unjoined_tables_enable_the_same() {
     tally.reached([0]).also(&joining::REACHED);
 }
 
+/// Tidy rows by sorting them; the rota means the same, and however it is spelled it becomes the
+/// same rota.
+#[test]
+fn tidy_rotas_are_the_same_rotas() {
+    let mut tally = Tally::new("tidy_rotas_are_the_same_rotas");
+    let mut random = Random::new(12);
+    for case in 0..4_000 {
+        let rota = match case % 4 {
+            0 => generate::granting_rota(&mut random),
+            1 => generate::relay_rota(&mut random),
+            _ => generate::small_rota(&mut random),
+        };
+        let rota = generate::respelled(&mut random, &rota);
+        let tidy = rota.tidy();
+        let sorted = |rows: &[rota::Row]| {
+            let mut rows = rows.to_vec();
+            rows.sort_by_key(rota::Row::place);
+            rows.dedup();
+            rows
+        };
+        let (user_rows, permission_rows) = (sorted(&rota.user_rows), sorted(&rota.permission_rows));
+        assert_eq!(tidy, Rota { format: TIDY, user_rows, permission_rows, ..rota.clone() });
+        assert_eq!(Rota::parse(&tidy.encode()), Ok(tidy.clone()));
+        assert_eq!(tidy.tidy(), tidy);
+        assert_eq!(generate::respelled(&mut random, &rota).tidy(), tidy);
+        assert_eq!(rewriting::table(&rota), rewriting::table(&tidy));
+        for _ in 0..4 {
+            let t = generate::rota_minute(&mut random, &rota);
+            if t < END {
+                same_answers(&rota, &tidy, t);
+            }
+        }
+        tally.add(0);
+        tidying::count(&mut tally, &rota, &tidy);
+    }
+    tally.reached([0]).also_often(&tidying::REACHED, 500);
+}
+
+/// Rows alone: out of range and out of order, of either kind, and both together.
+#[test]
+fn damaged_rows_are_judged_in_turn() {
+    let mut tally = Tally::new("damaged_rows_are_judged_in_turn");
+    let mut random = Random::new(13);
+    for _ in 0..20_000 {
+        let rota = generate::tidy_rota(&mut random);
+        let bytes = generate::damaged_rows(&mut random, &rota);
+        let refusal = tidying::first_fault(&mut tally, &bytes, &rota);
+        assert_eq!(Rota::parse(&bytes).err().unwrap_or(0), refusal);
+        tally.add(refusal);
+    }
+    tally.reached([0, 11, 12, 52]).also_often(&tidying::FAULTS, 500);
+}
+
 fn random_call(random: &mut Random, rota: &Rota, now: u32) -> Call {
     let user = generate::number(random, rota.users.into());
     match random.below(8) {
@@ -397,7 +452,7 @@ fn damaged_bytes_reach_every_refusal() {
             reached[number as usize] += 1;
         }
     }
-    for number in (1..=12).chain(21..=28) {
+    for number in (1..=12).chain(21..=28).chain([52]) {
         assert!(reached[number] > 50, "refusal {number}: {}", reached[number]);
     }
 }

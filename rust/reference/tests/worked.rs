@@ -2,20 +2,22 @@
 
 use cases::generate::{Sets, fine_rota};
 use cases::random::Random;
-use cases::{data, joining};
+use cases::{data, joining, tidying};
 use reference::END;
 use reference::hours::{Hours, HoursRef};
 use reference::listing;
 use reference::page::{Question, page};
 use reference::policy::{Policy, question};
 use reference::rewriting::{self, rewrite};
-use reference::rota::{Rota, Row};
+use reference::rota::{ANY_ORDER, Rota, Row, TIDY};
 use reference::service::{Call, Lent, Reply, State, serve};
 use reference::table::Table;
+use reference::tidying::tidy;
 
 /// S, as the text describes it.
 fn small() -> Rota {
     Rota {
+        format: ANY_ORDER,
         cycle: 10,
         hours: vec![Hours::new(0, 20, &[(0, 4), (6, 2)]), Hours::new(10, 40, &[(2, 5)])],
         users: 2,
@@ -414,6 +416,97 @@ fn rota_limits() {
     assert_eq!(read(full.clone()), Ok(()));
     full.hours.push(Hours::new(0, 9, &[(0, 1)]));
     assert_eq!(read(full), Err(7));
+}
+
+#[test]
+fn rota_formats() {
+    for format in [0, 2, 4, 256, 256 + ANY_ORDER, 256 + TIDY, 65_535] {
+        assert_eq!(Rota::parse(&Rota { format, ..small() }.encode()), Err(2), "format {format}");
+        // It comes before all else but the length of the header.
+        let cycle = 0;
+        let bytes = Rota { format, cycle, ..small() }.encode();
+        assert_eq!((Rota::parse(&bytes), Rota::parse(&bytes[..11])), (Err(2), Err(1)));
+    }
+    for format in [ANY_ORDER, TIDY] {
+        let rota = Rota { format, ..small() };
+        assert_eq!(Rota::parse(&rota.encode()), Ok(rota));
+    }
+}
+
+/// 11 and 52 of each user row in turn, then 12 and 52 of each permission row.
+#[test]
+fn rows_in_order() {
+    for (name, rota, due) in tidying::worked() {
+        let bytes = rota.encode();
+        let expected = if due == 0 { Ok(rota.clone()) } else { Err(due) };
+        assert_eq!(Rota::parse(&bytes), expected, "{name}");
+        let tidied = tidy(&bytes, &mut [0; 100]);
+        assert_eq!(tidied.err().unwrap_or(0), due, "{name}");
+        assert_eq!(tidy(&bytes, &mut []), Err(if due == 0 { 20 } else { due }), "{name}");
+    }
+}
+
+/// With each fault repaired the next one shows; at the end 20 is left, by the length of the output.
+#[test]
+fn refusals_of_tidying_in_order() {
+    let ladder = tidying::ladder();
+    let numbers: Vec<u32> = ladder.iter().map(|(_, refusal)| *refusal).collect();
+    assert_eq!(numbers, [1, 2, 3, 4, 5, 6, 7, 5, 8, 9, 10, 11, 52, 12, 52, 0]);
+    for (bytes, refusal) in ladder {
+        assert_eq!(Rota::parse(&bytes).err().unwrap_or(0), refusal);
+        let mut area = [0xa5; 64];
+        assert_eq!(tidy(&bytes, &mut area), Err(if refusal == 0 { 20 } else { refusal }));
+        assert_eq!(area, [0xa5; 64], "a refusal writes nothing");
+    }
+}
+
+#[test]
+fn small_rota_tidied() {
+    let rota = data::small_rota();
+    let expected = [&[3], &rota[1..]].concat();
+    let mut area = vec![0xa5; 60];
+    assert_eq!(tidy(&rota, &mut area), Ok(54));
+    assert_eq!(area[..54], expected);
+    assert!(area[54..].iter().all(|&byte| byte == 0xa5), "bytes past the length stay");
+    assert_eq!(tidy(&rota, &mut [0; 54]), Ok(54));
+    assert_eq!(tidy(&rota, &mut [0; 53]), Err(20));
+    let mut again = vec![0; 54];
+    assert_eq!((tidy(&expected, &mut again), again), (Ok(54), expected));
+}
+
+/// By role, then number, then the byte of the hours, each once.
+#[test]
+fn tidy_rows() {
+    let row = |(role, number, hours)| match hours {
+        255 => Row::new(number, role, HoursRef::Always),
+        hours => Row::new(number, role, HoursRef::Numbered(hours)),
+    };
+    let ascending = [(0, 1, 0), (0, 1, 1), (0, 1, 255), (1, 0, 255), (1, 1, 0), (1, 1, 1)].map(row);
+    let [a, b, c, d, e, f] = ascending;
+    let with = |user_rows: &[Row], permission_rows: &[Row]| Rota {
+        permissions: 2,
+        roles: vec![HoursRef::Always; 2],
+        user_rows: user_rows.to_vec(),
+        permission_rows: permission_rows.to_vec(),
+        ..small()
+    };
+    let expected = Rota { format: TIDY, ..with(&ascending, &ascending[..2]) };
+    for (user_rows, permission_rows) in [
+        (&[f, e, d, c, b, a][..], &[b, a][..]),
+        (&[a, b, c, d, e, f], &[a, b]),
+        (&[a, b, c, d, e, f, a, b, c, d, e, f], &[a, a, a, b]),
+        (&[c, f, c, a, a, a, b, f, e, e, d], &[b, a, b]),
+    ] {
+        let rota = with(user_rows, permission_rows);
+        assert_eq!(rota.tidy(), expected);
+        // The length that counts is that of the output, where rows repeat.
+        let (bytes, mut area) = (rota.encode(), vec![0; expected.encode().len()]);
+        assert_eq!(tidy(&bytes, &mut area), Ok(area.len()));
+        assert_eq!(area, expected.encode());
+        area.pop();
+        assert_eq!(tidy(&bytes, &mut area), Err(20));
+    }
+    assert_eq!(expected.tidy(), expected);
 }
 
 /// On the table of S with its 12 rows, which are not joined.

@@ -59,6 +59,25 @@ impl Host<'_> {
         agreed(told, mirrored)
     }
 
+    /// The rota with its rows in order, as two coordinators compare theirs. Its table must be the
+    /// same, and tidied again it must be the same.
+    fn show_tidy(&mut self) -> Result<(), Refusal> {
+        let (mut tidy, mut again, mut area) = ([0; 8_192], [0; 8_192], [0; 65_536]);
+        let tidy = Rota::read(self.rota.tidy(&mut tidy)?)?;
+        let counts = tidy.counts();
+        assert_eq!(counts.format, 3);
+        assert_eq!(tidy.rewrite(&mut area)?.bytes, self.table.bytes(), "another table");
+        assert_eq!(tidy.tidy(&mut again)?, tidy.bytes(), "tidied to another");
+        say!(
+            self.text,
+            "tidy rota: {} + {} rows, {} bytes, with the same table",
+            counts.volunteer_rows,
+            counts.right_rows,
+            tidy.bytes().len()
+        );
+        Ok(())
+    }
+
     /// An hour begins: whoever holds a right now comes, and asks for every right; even numbers
     /// leave at noon.
     fn spend_hour(&mut self, minute: u32) -> Result<(), Refusal> {
@@ -213,7 +232,10 @@ impl Host<'_> {
         other[0] ^= 0xff;
         self.show_refusal("the rota without its last byte", Rota::read(&rota[..rota.len() - 1]));
         self.show_refusal("the rota with another first byte", Rota::read(&other));
+        other[0] = 3;
+        self.show_refusal("the rota as a tidy one", Rota::read(&other));
         self.show_refusal("an area of 8 bytes", self.rota.rewrite(&mut [0; 8]));
+        self.show_refusal("an area of 8 bytes to tidy in", self.rota.tidy(&mut [0; 8]));
         let short = &table[..table.len() - 1];
         self.show_refusal("the table without its last byte", Table::read(short));
         self.show_refusal("the next use by volunteer 256", self.table.next_use(256, 0, 0));
@@ -250,7 +272,8 @@ fn week(file: &[u8]) -> Result<String, Refusal> {
     };
     say!(
         host.text,
-        "rota: cycle {}, {} hours, {} volunteers, {} rights, {} roles, {} + {} rows",
+        "rota: format {}, cycle {}, {} hours, {} volunteers, {} rights, {} roles, {} + {} rows",
+        counts.format,
         counts.cycle,
         counts.hours,
         counts.volunteers,
@@ -261,6 +284,7 @@ fn week(file: &[u8]) -> Result<String, Refusal> {
     );
     let (derived, rows, length) = (written.derived, written.rows, written.bytes.len());
     say!(host.text, "table: {derived} derived roles, {rows} rows, {length} bytes");
+    host.show_tidy()?;
 
     let monday = minute(2024, 2, 26, 0, 0)?;
     for hour in 0..7 * 24 {

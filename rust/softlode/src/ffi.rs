@@ -63,6 +63,13 @@ impl Told<NextUse> {
 
 /// Its length has 64 bits, so it lies flat.
 #[repr(C)]
+pub struct TidiedTold {
+    pub refusal: u32,
+    pub length: u64,
+}
+
+/// Its length has 64 bits, so it lies flat.
+#[repr(C)]
 pub struct WrittenTold {
     pub refusal: u32,
     pub derived: u32,
@@ -87,6 +94,7 @@ type Ask = unsafe extern "C" fn(*mut Service, *const u8, usize, u32, u32) -> Tol
 unsafe extern "C" {
     fn softlode_rota_read(rota: *const u8, length: usize) -> Told<RotaCounts>;
     fn softlode_table_read(table: *const u8, length: usize) -> Told<TableCounts>;
+    fn softlode_rota_tidy(rota: *const u8, length: usize, area: *mut u8, size: usize) -> TidiedTold;
     fn softlode_rota_question(rota: *const u8, length: usize, volunteer: u32, right: u32, minute: u32) -> Told<Answer>;
     fn softlode_table_question(table: *const u8, length: usize, volunteer: u32, right: u32, minute: u32) -> Told<Answer>;
     fn softlode_rota_page(questions: *mut Question, count: usize, rota: *const u8, length: usize) -> u32;
@@ -114,6 +122,11 @@ pub fn rota_read(rota: &[u8]) -> Told<RotaCounts> {
 pub fn table_read(table: &[u8]) -> Told<TableCounts> {
     // SAFETY: the bytes are lent for the time of the call.
     unsafe { softlode_table_read(table.as_ptr(), table.len()) }
+}
+
+pub fn tidy(rota: &[u8], area: &mut [u8]) -> TidiedTold {
+    // SAFETY: the bytes and the area are lent for the time of the call, the area exclusively.
+    unsafe { softlode_rota_tidy(rota.as_ptr(), rota.len(), area.as_mut_ptr(), area.len()) }
 }
 
 pub fn rewrite(rota: &[u8], area: &mut [u8]) -> WrittenTold {
@@ -195,13 +208,14 @@ mod tests {
     /// hosts/host.c asserts the same numbers of the header's structs.
     #[test]
     fn layouts() {
-        assert_eq!(size_of::<Told<RotaCounts>>(), 32);
+        assert_eq!(size_of::<Told<RotaCounts>>(), 36);
         assert_eq!(size_of::<Told<TableCounts>>(), 28);
         assert_eq!(size_of::<Told<Answer>>(), 12);
         assert_eq!(size_of::<Told<NextUse>>(), 12);
         assert_eq!(size_of::<Told<DateTime>>(), 28);
         assert_eq!(size_of::<Told<u32>>(), 8);
         assert_eq!(offset_of!(Told<Answer>, values), 4);
+        assert_eq!((size_of::<TidiedTold>(), offset_of!(TidiedTold, length)), (16, 8));
         assert_eq!((size_of::<WrittenTold>(), offset_of!(WrittenTold, length)), (24, 16));
         assert_eq!((size_of::<BoardTold>(), offset_of!(BoardTold, rights)), (520, 8));
         assert_eq!((size_of::<Place>(), size_of::<Question>()), (12, 24));
@@ -220,6 +234,8 @@ mod tests {
         unsafe {
             assert_eq!(softlode_rota_read(null(), 0).refusal, 1);
             assert_eq!(softlode_table_read(null(), 0).refusal, 21);
+            assert_eq!(softlode_rota_tidy(null(), 0, null_mut(), 0).refusal, 1);
+            assert_eq!(softlode_rota_tidy(small.as_ptr(), small.len(), null_mut(), 0).refusal, 20);
             assert_eq!(softlode_rewrite(null(), 0, null_mut(), 0).refusal, 1);
             assert_eq!(softlode_rewrite(small.as_ptr(), small.len(), null_mut(), 0).refusal, 20);
             for question in [softlode_rota_question as Single, softlode_table_question] {

@@ -31,7 +31,7 @@ impl Lent<'_> {
     }
 }
 
-/// The counts of a rota's header.
+/// The counts of a rota's header, and its format.
 #[repr(C)]
 #[derive(Clone, Copy, Debug, PartialEq, Eq)]
 pub struct RotaCounts {
@@ -49,6 +49,8 @@ pub struct RotaCounts {
     pub volunteer_rows: u32,
     /// Rows that join a right with a role.
     pub right_rows: u32,
+    /// 1; or 3 for a tidy rota, whose rows are in order.
+    pub format: u32,
 }
 
 /// The counts of a table's header.
@@ -95,7 +97,7 @@ pub struct Rota<'a> {
 }
 
 impl<'a> Rota<'a> {
-    /// Reads a rota, or 1 to 12.
+    /// Reads a rota, of either format; or 1 to 12, 52.
     ///
     /// ```
     /// use softlode::{Refusal, Rota};
@@ -114,7 +116,7 @@ impl<'a> Rota<'a> {
         self.bytes
     }
 
-    /// The counts of the header.
+    /// The counts of the header, and the format.
     pub fn counts(&self) -> RotaCounts {
         self.counts
     }
@@ -128,6 +130,39 @@ impl<'a> Rota<'a> {
     /// Answers a page of up to 256 questions, or 51; see [`Lent::page`].
     pub fn page(&self, questions: &mut [Question]) -> Result<(), Refusal> {
         Lent::from(self).page(questions)
+    }
+
+    /// Tidies the rota: writes it in format 3 at the start of the area, and gives its bytes; those
+    /// past them stay. Or 20, where the area is too small, and then all of it stays. The rota's own
+    /// length is always enough. Takes less than 32 KiB of stack.
+    ///
+    /// The rows of each kind are put in order, and each is written once; all else is copied. So two
+    /// rotas that differ only in the order of rows and in repeats become the same bytes. A tidy rota
+    /// becomes itself, gives the same answers, and has the same table.
+    ///
+    /// ```
+    /// use softlode::{Refusal, Rota};
+    ///
+    /// let file = include_bytes!("../../../data/small.rota");
+    /// // Another coordinator sends the two volunteer rows in the other order.
+    /// let mut other = *file;
+    /// other[45..51].rotate_left(3);
+    ///
+    /// let (mut area, mut other_area) = ([0; 54], [0; 54]);
+    /// let tidy = Rota::read(file)?.tidy(&mut area)?;
+    /// assert_eq!(Rota::read(&other)?.tidy(&mut other_area)?, tidy);
+    /// assert_eq!(Rota::read(tidy)?.counts().format, 3);
+    ///
+    /// // What says that it is tidy is held to it.
+    /// other[0] = 3;
+    /// assert_eq!(Rota::read(&other), Err(Refusal::ROTA_ORDER));
+    /// # Ok::<(), Refusal>(())
+    /// ```
+    pub fn tidy<'b>(&self, area: &'b mut [u8]) -> Result<&'b [u8], Refusal> {
+        let told = ffi::tidy(self.bytes, area);
+        Refusal::judge(told.refusal)?;
+        // The tidy rota is within the area.
+        Ok(&area[..told.length as usize])
     }
 
     /// Rewrites the rota to its table, at the start of the area; the bytes past it stay. Or 20,

@@ -61,7 +61,7 @@ macro_rules! refusals {
 
 refusals! {
     ROTA_SHORT = 1: "the rota is shorter than its header";
-    ROTA_FORMAT = 2: "this is not a rota of format 1";
+    ROTA_FORMAT = 2: "this is not a rota of format 1 or 3";
     ROTA_CYCLE = 3: "the rota's cycle is not 1 to 40320 minutes";
     ROTA_COUNTS = 4: "a count of the rota is over its limit";
     HOURS_CUT = 5: "an hours record is cut off";
@@ -72,7 +72,7 @@ refusals! {
     ROLE_HOURS = 10: "a role names hours that are not there";
     VOLUNTEER_ROW = 11: "a volunteer row names a volunteer, role or hours that are not there";
     RIGHT_ROW = 12: "a right row names a right, role or hours that are not there";
-    AREA_TOO_SMALL = 20: "the area is too small for the table";
+    AREA_TOO_SMALL = 20: "the area is too small for the table or the tidy rota";
     TABLE_SHORT = 21: "the table is shorter than its header";
     TABLE_FORMAT = 22: "this is not a table of format 2";
     TABLE_CYCLE = 23: "the table's cycle is not 1 to 40320 minutes";
@@ -91,4 +91,5 @@ refusals! {
     NOT_OPEN = 44: "the volunteer's session is not open";
     NO_SUCH_DATE = 50: "the date or time does not exist or is not in 2001 to 2400";
     PAGE_TOO_LONG = 51: "a page has more than 256 questions";
+    ROTA_ORDER = 52: "a row of a format 3 rota is not above the row before it";
 }

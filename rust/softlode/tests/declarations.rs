@@ -21,9 +21,10 @@ const WRAPPER: &str = concat!(
 );
 
 /// The structs as the header, the proved crates and the wrapper name them.
-const STRUCTS: [[&str; 3]; 11] = [
+const STRUCTS: [[&str; 3]; 12] = [
     ["softlode_rota", "RotaTold", "Told<RotaCounts>"],
     ["softlode_table", "TableTold", "Told<TableCounts>"],
+    ["softlode_tidied", "TidiedTold", "TidiedTold"],
     ["softlode_written", "WrittenTold", "WrittenTold"],
     ["softlode_told", "Told", "Told<Answer>"],
     ["softlode_next", "NextTold", "Told<NextUse>"],
@@ -155,7 +156,7 @@ fn c_functions() -> Vec<Function> {
 #[test]
 fn the_same_functions() {
     let expected = c_functions();
-    assert_eq!(expected.len(), 19);
+    assert_eq!(expected.len(), 20);
     let kinds = [
         ("&[u8]", "bytes size"),
         ("&mut [u8]", "area size"),

@@ -11,7 +11,8 @@ use cases::random::Random;
 use cases::worst;
 use softlode::{Lent, Question, Rota, Service, Table, date, minute};
 
-/// How far the stack is painted for a rewriting, and for every other call.
+/// How far the stack is painted for a rewriting, and for every other call. A tidying may take half
+/// of the latter.
 const FAR: usize = 5 << 18;
 const NEAR: usize = 1 << 16;
 const PAINT: u64 = 0x5AFE_C0DE_5AFE_C0DE;
@@ -91,6 +92,12 @@ fn rotas() -> Vec<Vec<u8>> {
 }
 
 #[repr(C)]
+struct Tidied {
+    refusal: u32,
+    _length: u64,
+}
+
+#[repr(C)]
 struct Written {
     refusal: u32,
     _derived: u32,
@@ -99,6 +106,7 @@ struct Written {
 }
 
 unsafe extern "C" {
+    fn softlode_rota_tidy(rota: *const u8, length: usize, area: *mut u8, size: usize) -> Tidied;
     fn softlode_rewrite(rota: *const u8, length: usize, area: *mut u8, size: usize) -> Written;
 }
 
@@ -114,6 +122,38 @@ fn rewrite(rota: &[u8], area: &mut [u8]) -> (u32, usize) {
     (refusal, stack)
 }
 
+/// The refusal of a tidying, and the stack that it took.
+fn tidy(rota: &[u8], area: &mut [u8]) -> (u32, usize) {
+    let mut refusal = 0;
+    let stack = stack_of(NEAR, || {
+        // SAFETY: the bytes and the area are lent for the time of the call, the area exclusively.
+        let tidied =
+            unsafe { softlode_rota_tidy(rota.as_ptr(), rota.len(), area.as_mut_ptr(), area.len()) };
+        refusal = tidied.refusal;
+    });
+    (refusal, stack)
+}
+
+/// Into no area, and into one that is long enough.
+#[test]
+fn of_a_tidying() {
+    on_thread(|| {
+        let mut area = [0; 8_192];
+        let (mut tidied, mut refused) = (Vec::new(), Vec::new());
+        for rota in rotas() {
+            for size in [0, 8_192] {
+                match tidy(&rota, &mut area[..size]) {
+                    (0, stack) => tidied.push(stack),
+                    (_, stack) => refused.push(stack),
+                }
+            }
+        }
+        assert!(most("a tidying", &tidied) < 1 << 15);
+        assert!(most("a tidying that is refused", &refused) < 1 << 15);
+        assert!(tidied.len() > 200, "{} tidy rotas", tidied.len());
+    });
+}
+
 /// Into no area, 64 KiB, and 1 MB.
 #[test]
 fn of_a_rewriting() {
@@ -124,7 +164,7 @@ fn of_a_rewriting() {
         for rota in rotas() {
             for size in [0, 65_536, 1_000_000] {
                 match rewrite(&rota, &mut area[..size]) {
-                    (1..=12, stack) => refused.push(stack),
+                    (1..=12 | 52, stack) => refused.push(stack),
                     (refusal, stack) => {
                         tables += u32::from(refusal == 0);
                         accepted.push(stack);

@@ -18,7 +18,7 @@ const TOO_HIGH: [u32; 7] = [64, 255, 256, 512, 65_536, 1 << 31, u32::MAX];
 fn every_refusal_has_a_text_of_its_own() {
     let numbers: Vec<u32> = Refusal::ALL.iter().map(|refusal| refusal.number()).collect();
     let expected: Vec<u32> =
-        (1..=12).chain(20..=28).chain(33..=35).chain(40..=44).chain([50, 51]).collect();
+        (1..=12).chain(20..=28).chain(33..=35).chain(40..=44).chain(50..=52).collect();
     assert_eq!(numbers, expected);
     let texts: HashSet<&str> = Refusal::ALL.iter().map(|refusal| refusal.meaning()).collect();
     assert_eq!(texts.len(), numbers.len());
@@ -35,6 +35,7 @@ fn every_refusal_has_a_text_of_its_own() {
 fn no_bytes() {
     assert_eq!(Rota::read(&[]), Err(Refusal::ROTA_SHORT));
     assert_eq!(Table::read(&[]), Err(Refusal::TABLE_SHORT));
+    assert_eq!(Rota::read(SMALL).unwrap().tidy(&mut []), Err(Refusal::AREA_TOO_SMALL));
     assert_eq!(Rota::read(SMALL).unwrap().rewrite(&mut []), Err(Refusal::AREA_TOO_SMALL));
     for (lent, refusal) in
         [(Lent::Rota(&[]), Refusal::ROTA_SHORT), (Lent::Table(&[]), Refusal::TABLE_SHORT)]
@@ -234,6 +235,66 @@ fn a_refused_rewriting_leaves_the_area() {
     assert_eq!(Table::read(&area), Err(Refusal::TABLE_LENGTH), "not the whole area");
 }
 
+/// The rota with both kinds of rows in the other order, and the first volunteer row twice.
+fn respelled(rota: &[u8]) -> Vec<u8> {
+    let counts = Rota::read(rota).unwrap().counts();
+    let [volunteers, rights] =
+        [counts.volunteer_rows, counts.right_rows].map(|rows| 3 * rows as usize);
+    let (start, rows) = rota.split_at(rota.len() - volunteers - rights);
+    let reversed = |rows: &[u8]| rows.chunks_exact(3).rev().collect::<Vec<_>>().concat();
+    let (volunteer_rows, right_rows) = rows.split_at(volunteers);
+    let all =
+        [start, &reversed(volunteer_rows), &volunteer_rows[..3], &reversed(right_rows)].concat();
+    let count = (counts.volunteer_rows as u16 + 1).to_le_bytes();
+    [&all[..8], &count, &all[10..]].concat()
+}
+
+#[test]
+fn the_tidy_small_rota() {
+    let rota = Rota::read(SMALL).unwrap();
+    assert_eq!(rota.counts().format, 1);
+    let expected = [&[3], &SMALL[1..]].concat();
+    let mut area = [0xa5; 60];
+    assert_eq!(rota.tidy(&mut area), Ok(&expected[..]));
+    assert_eq!(area[54..], [0xa5; 6]);
+    let mut area = [0xa5; 53];
+    assert_eq!(rota.tidy(&mut area), Err(Refusal::AREA_TOO_SMALL));
+    assert_eq!(area, [0xa5; 53]);
+    let tidy = Rota::read(&expected).unwrap();
+    assert_eq!(tidy.counts().format, 3);
+    assert_eq!(tidy.tidy(&mut [0; 54]), Ok(&expected[..]));
+    // The longer rota becomes the same, in an area that is shorter than itself.
+    let longer = respelled(SMALL);
+    assert_eq!(longer.len(), 57);
+    assert_eq!(Rota::read(&longer).unwrap().tidy(&mut [0; 54]), Ok(&expected[..]));
+    for (at, refusal) in [(53, Refusal::RIGHT_ROW), (0, Refusal::ROTA_FORMAT)] {
+        let mut bad = expected.clone();
+        bad[at] = 2;
+        assert_eq!(Rota::read(&bad), Err(refusal));
+    }
+}
+
+/// However a week is spelled: the same bytes, the same table, and the same answers.
+#[test]
+fn the_tidy_week() {
+    let (mut area, mut other_area) = ([0; 1_024], [0; 1_024]);
+    let tidy = Rota::read(WEEK).unwrap().tidy(&mut area).unwrap();
+    assert_ne!(tidy[2..], WEEK[2..]);
+    let respelled = respelled(WEEK);
+    assert_eq!(Rota::read(&respelled).unwrap().tidy(&mut other_area), Ok(tidy));
+    assert_eq!(Rota::read(tidy).unwrap().tidy(&mut other_area), Ok(tidy));
+    let mut table = vec![0; AREA_SIZE];
+    for rota in [WEEK, &respelled, tidy] {
+        assert_eq!(Rota::read(rota).unwrap().rewrite(&mut table).unwrap().bytes, WEEK_TABLE);
+        assert_eq!(week(Lent::Rota(rota)), week(Lent::Table(WEEK_TABLE)));
+    }
+    // A format alone does not make it tidy.
+    let untidy = [&[3], &WEEK[1..]].concat();
+    assert_eq!(Rota::read(&untidy), Err(Refusal::ROTA_ORDER));
+    assert_eq!(Lent::Rota(&untidy).may(0, 0, 0), Err(Refusal::ROTA_ORDER));
+    assert_eq!(Service::fresh().advance(Lent::Rota(&untidy), 0), Err(Refusal::ROTA_ORDER));
+}
+
 /// A week of the service, hour by hour: what every call told, and the record that it left.
 fn week(lent: Lent) -> Vec<(Result<u32, Refusal>, Service)> {
     let mut service = Service::fresh();
@@ -283,6 +344,18 @@ fn stack_of_a_rewriting() {
             Rota::read(rota).unwrap().rewrite(&mut area).unwrap().bytes.to_vec()
         });
         assert_eq!(written, table);
+    }
+}
+
+/// A tidying takes less than 32 KiB; the rest is for the thread itself.
+#[test]
+fn stack_of_a_tidying() {
+    for rota in [SMALL, WEEK] {
+        let mut area = [0; 1_024];
+        let length = with_stack((32 << 10) + (16 << 10), || {
+            Rota::read(rota).unwrap().tidy(&mut area).map(<[u8]>::len)
+        });
+        assert_eq!(length, Ok(rota.len()));
     }
 }
 

@@ -1,5 +1,5 @@
-//! The rota, its table, the rewriting, the service and the calendar, made to be quick: the
-//! yardstick for the speed of the proved code.
+//! The rota, its tidying, its table, the rewriting, the service and the calendar, made to be quick:
+//! the yardstick for the speed of the proved code.
 //!
 //! Rotas and tables stay in their bytes: reading judges them in one pass, and a question looks
 //! only at what it needs. Nothing is allocated but by the rewriting. Of the reference it takes
@@ -14,6 +14,7 @@ pub mod rota;
 pub mod service;
 mod sweep;
 pub mod table;
+pub mod tidying;
 
 use reference::Refusal;
 

@@ -97,6 +97,8 @@ impl<'a> Record<'a> {
 }
 
 pub struct Rota<'a> {
+    /// Whether it is of format 3, and its rows ascend.
+    pub is_tidy: bool,
     pub cycle: u32,
     pub hours: u8,
     pub users: u8,
@@ -112,7 +114,8 @@ pub struct Rota<'a> {
 impl<'a> Rota<'a> {
     pub fn read(bytes: &'a [u8]) -> Result<Rota<'a>, Refusal> {
         let (head, body) = bytes.split_first_chunk::<12>().ok_or(1u32)?;
-        ensure(u16_at(head, 0) == 1, 2)?;
+        let format = u16_at(head, 0);
+        ensure(format == 1 || format == 3, 2)?;
         let cycle = u16_at(head, 2);
         ensure(0 < cycle && cycle <= CYCLE_LIMIT, 3)?;
         let &[_, _, _, _, hours, users, permissions, roles, ..] = head;
@@ -135,11 +138,26 @@ impl<'a> Rota<'a> {
         ensure(role_hours.iter().all(|&reference| known(reference)), 10)?;
         let (rows, _) = rows.as_chunks();
         let (user_rows, permission_rows) = rows.split_at(user_rows.into());
-        let fit = |rows: &[Row], numbers: u8| all_below(rows, [numbers, roles, hours + 1]);
-        ensure(fit(user_rows, users), 11)?;
-        ensure(fit(permission_rows, permissions), 12)?;
-        let roles = role_hours;
-        Ok(Rota { cycle, hours, users, permissions, records, roles, user_rows, permission_rows })
+        let limits = |numbers: u8| [numbers, roles, hours + 1];
+        let is_tidy = format == 3;
+        if is_tidy {
+            judge_tidy(user_rows, limits(users), 11)?;
+            judge_tidy(permission_rows, limits(permissions), 12)?;
+        } else {
+            ensure(all_below(user_rows, limits(users)), 11)?;
+            ensure(all_below(permission_rows, limits(permissions)), 12)?;
+        }
+        Ok(Rota {
+            is_tidy,
+            cycle,
+            hours,
+            users,
+            permissions,
+            records,
+            roles: role_hours,
+            user_rows,
+            permission_rows,
+        })
     }
 
     /// The hours records, which were judged before.
@@ -169,12 +187,19 @@ impl<'a> Rota<'a> {
     }
 }
 
-/// Whether each row's number, role, and hours reference with 1 added, where 255 becomes 0, are
-/// below these. Sixteen rows at a time, so that whole vectors of bytes are compared.
+/// What is added to a row's bytes before they are compared with limits: 255 becomes 0.
+const ADDED: Row = [0, 0, 1];
+
+/// Whether a row's number, role, and hours reference with 1 added are below these.
+#[inline]
+fn is_below(row: &Row, limits: Row) -> bool {
+    (0..3).all(|i| row[i].wrapping_add(ADDED[i]) < limits[i])
+}
+
+/// Whether each row is. Sixteen rows at a time, so that whole vectors of bytes are compared.
 fn all_below(rows: &[Row], limits: Row) -> bool {
-    const ADDED: Row = [0, 0, 1];
     let (chunks, rest) = rows.as_chunks::<16>();
-    let is_below = |row: &Row| (0..3).all(|i| row[i].wrapping_add(ADDED[i]) < limits[i]);
+    let is_below = |row: &Row| is_below(row, limits);
     if chunks.is_empty() {
         return rest.iter().all(is_below);
     }
@@ -187,6 +212,51 @@ fn all_below(rows: &[Row], limits: Row) -> bool {
         over == 0
     };
     chunks.iter().all(none_over) && rest.iter().all(is_below)
+}
+
+/// By what rows ascend: role, number, hours.
+#[inline]
+pub fn key(&[number, role, hours]: &Row) -> u32 {
+    u32::from_be_bytes([0, role, number, hours])
+}
+
+/// Whether each row is above the one before. Sixteen rows at a time are compared with those after
+/// them, as whole vectors of bytes.
+pub fn ascend(mut rows: &[Row]) -> bool {
+    const STEP: usize = 16;
+    const BYTES: usize = 3 * STEP;
+    // A comparison counts where it begins at a number. There 16 rows have those after them, and the
+    // last a row more, so that whatever is compared lies within the bytes.
+    const COUNTS: [Row; STEP] = [[1, 0, 0]; STEP];
+    while let Some((window, _)) = rows.split_first_chunk::<{ STEP + 2 }>() {
+        let bytes = window.as_flattened();
+        let from = |first: usize| bytes[first..first + BYTES].iter();
+        let here = from(0).zip(from(1)).zip(from(2));
+        let next = from(3).zip(from(4)).zip(from(5));
+        let falls = here.zip(next).zip(COUNTS.as_flattened()).fold(
+            0,
+            |falls, ((((number, role), hours), ((number2, role2), hours2)), counts)| {
+                let by_number = (number2 > number) | (number2 == number) & (hours2 > hours);
+                let is_above = (role2 > role) | (role2 == role) & by_number;
+                falls | (u8::from(!is_above) & counts)
+            },
+        );
+        if falls != 0 {
+            return false;
+        }
+        rows = &rows[STEP..];
+    }
+    rows.windows(2).all(|two| key(&two[0]) < key(&two[1]))
+}
+
+/// The rows of a tidy rota: all at once, and where something is wrong, one by one to the first.
+fn judge_tidy(rows: &[Row], limits: Row, out_of_range: Refusal) -> Result<(), Refusal> {
+    if all_below(rows, limits) && ascend(rows) {
+        return Ok(());
+    }
+    let is_wrong = |i: usize| !is_below(&rows[i], limits) || i > 0 && !ascend(&rows[i - 1..=i]);
+    let first = (0..rows.len()).find(|&i| is_wrong(i)).expect("one of them is wrong");
+    Err(if is_below(&rows[first], limits) { 52 } else { out_of_range })
 }
 
 /// The set of roles of those of the rows that hold.
@@ -337,7 +407,7 @@ fn one_of(hours: Held) -> Held {
 
 /// The members of a set, ascending.
 #[inline]
-fn members(mut set: u64) -> impl Iterator<Item = usize> {
+pub fn members(mut set: u64) -> impl Iterator<Item = usize> {
     std::iter::from_fn(move || {
         let lowest = set.trailing_zeros();
         set &= set.wrapping_sub(1);

@@ -1,14 +1,14 @@
 //! The quick implementation against the reference: rotas and tables that are well formed, damaged
-//! and cut, their rewriting byte for byte, lists of calls, and the calendar.
+//! and cut, their tidying and rewriting byte for byte, lists of calls, and the calendar.
 
 use cases::case::{Case, Tally, cases};
 use cases::generate::{self, Sets};
 use cases::random::Random;
-use cases::{data, joining, worst, worst::jumps};
+use cases::{data, joining, tidying, worst, worst::jumps};
 use reference::edges::Edges;
 use reference::page::{self, Question};
 use reference::policy::{Policy, question};
-use reference::rota::Rota;
+use reference::rota::{Rota, TIDY};
 use reference::service::{Lent, State, serve};
 use reference::table::{Row, Table};
 use reference::{END, Refusal, calendar, rewriting, set};
@@ -70,6 +70,7 @@ fn compare_page(
 fn compare_rota(case: &mut Case, tally: &mut Tally, bytes: &[u8], near: &Rota) {
     let (quick, expected) = (tuned::rota::Rota::read(bytes), Rota::parse(bytes));
     if let (Ok(quick), Ok(expected)) = (&quick, &expected) {
+        case.same(quick.is_tidy, expected.format == TIDY, bytes, "format");
         let counts = (quick.cycle, usize::from(quick.hours), quick.roles.len());
         let wanted = (u32::from(expected.cycle), expected.hours.len(), expected.roles.len());
         case.same(counts, wanted, bytes, "counts");
@@ -148,7 +149,37 @@ fn rotas() {
             every_length(&small.encode(), |bytes| compare_rota(case, &mut tally, bytes, &small));
         }
     });
-    tally.reached((0..=12).chain(33..=35));
+    tally.reached((0..=12).chain(33..=35).chain([52]));
+}
+
+/// Rows of tidy rotas, out of range and out of order.
+#[test]
+fn rows() {
+    let mut tally = Tally::new("tuned rows");
+    for (name, rota, due) in tidying::worked() {
+        let read = tuned::rota::Rota::read(&rota.encode()).map(|_| ());
+        assert_eq!(read, if due == 0 { Ok(()) } else { Err(due) }, "{name}");
+    }
+    for (bytes, refusal) in tidying::ladder() {
+        let read = tuned::rota::Rota::read(&bytes).map(|_| ());
+        assert_eq!(read, if refusal == 0 { Ok(()) } else { Err(refusal) });
+    }
+    cases("tuned rows", 20_000, |case| {
+        let rota = generate::tidy_rota(&mut case.random);
+        let bytes = generate::damaged_rows(&mut case.random, &rota);
+        tidying::first_fault(&mut tally, &bytes, &rota);
+        compare_rota(case, &mut tally, &bytes, &rota);
+    });
+    tally.reached([0, 11, 12, 52]).also_often(&tidying::FAULTS, 500);
+}
+
+#[test]
+fn each_row_out_of_order() {
+    let mut case = Case::new("tuned each_row_out_of_order", 0);
+    tidying::each_row_out_of_order(&mut case.random, |rota, refusal| {
+        let bytes = rota.encode();
+        assert_eq!(tuned::rota::Rota::read(&bytes).err().unwrap_or(0), refusal);
+    });
 }
 
 #[test]
@@ -157,9 +188,71 @@ fn rotas_at_the_limits() {
     for which in 0..generate::EDGE_SIZES {
         let mut case = Case::new("tuned rotas_at_the_limits", which.into());
         let rota = generate::rota_of(&mut case.random, &generate::edge_sizes(which));
-        compare_rota(&mut case, &mut tally, &rota.encode(), &rota);
+        for rota in [rota.tidy(), rota] {
+            compare_rota(&mut case, &mut tally, &rota.encode(), &rota);
+            compare_tidied(&mut case, &mut tally, &rota.encode());
+        }
     }
-    tally.reached([0, 33, 34, 35]);
+    tally.reached([0, 20, 33, 34, 35]);
+}
+
+/// Into areas of the tidy rota's size, one less, one more, of the rota's own size and one less,
+/// none, and any.
+#[test]
+fn tidied() {
+    let mut tally = Tally::new("tuned tidied");
+    cases("tuned tidied", 8_000, |case| {
+        let rota = any_rota(&mut case.random);
+        let bytes = match case.random.below(5) {
+            0 => generate::damaged_rota(&mut case.random, &rota),
+            1 => generate::damaged_rows(&mut case.random, &rota.tidy()),
+            2 => rota.encode(),
+            _ => generate::respelled(&mut case.random, &rota).encode(),
+        };
+        compare_tidied(case, &mut tally, &bytes);
+    });
+    let mut case = Case::new("tuned tidied at the limits", 0);
+    compare_tidied(&mut case, &mut tally, &data::small_rota());
+    let most = tidying::most_rows(&mut case.random);
+    let [few, one] = [7, 1].map(|count| tidying::most_repeats(&most, count));
+    for rota in [few, one, most.tidy(), most] {
+        compare_tidied(&mut case, &mut tally, &rota.encode());
+    }
+    for rota in tidying::all_rows() {
+        compare_tidied(&mut case, &mut tally, &rota.encode());
+    }
+    for (_, rota, _) in tidying::worked() {
+        compare_tidied(&mut case, &mut tally, &rota.encode());
+    }
+    for (bytes, _) in tidying::ladder() {
+        compare_tidied(&mut case, &mut tally, &bytes);
+    }
+    tally.reached((0..=12).chain([20, 52])).also_often(&tidying::REACHED, 500);
+}
+
+fn compare_tidied(case: &mut Case, tally: &mut Tally, rota: &[u8]) {
+    let whole = Rota::parse(rota).map(|rota| {
+        let tidy = rota.tidy();
+        tidying::count(tally, &rota, &tidy);
+        tidy.encode()
+    });
+    let size = whole.as_ref().map_or(12, Vec::len);
+    let any = case.random.below(2 * size as u32) as usize;
+    let own = rota.len();
+    for size in [size, size - 1, size + 1, own, own.saturating_sub(1), 0, any] {
+        let filling = case.random.byte();
+        let mut expected_area = vec![filling; size];
+        let expected = whole.as_ref().map_err(|&refusal| refusal).and_then(|tidy| {
+            expected_area.get_mut(..tidy.len()).ok_or(20u32)?.copy_from_slice(tidy);
+            Ok(tidy.len())
+        });
+        for tidy in [tuned::tidying::tidy, tuned::tidying::tidy_by_sets] {
+            let mut area = vec![filling; size];
+            tally.add(expected.err().unwrap_or(0));
+            case.same(tidy(rota, &mut area), expected, rota, ("area", size));
+            case.same(&area, &expected_area, rota, ("area", size));
+        }
+    }
 }
 
 #[test]
@@ -205,7 +298,7 @@ fn rewritten() {
     for (_, worked) in joining::all_worked() {
         compare_rewritten(&mut case, &mut tally, &worked.rota.encode());
     }
-    tally.reached((0..=12).chain([20])).also(&joining::REACHED);
+    tally.reached((0..=12).chain([20, 52])).also(&joining::REACHED);
 }
 
 fn compare_rewritten(case: &mut Case, tally: &mut Tally, rota: &[u8]) {
@@ -416,7 +509,7 @@ fn calls() {
             compare_calls(case, &mut tally, Lent::Table(&bytes), &table, Edges::of_table(&table));
         }
     });
-    tally.reached((0..=12).chain(21..=28).chain([33, 34, 35, 40, 41, 42, 43, 44]));
+    tally.reached((0..=12).chain(21..=28).chain([33, 34, 35, 40, 41, 42, 43, 44, 52]));
 }
 
 fn compare_calls(case: &mut Case, tally: &mut Tally, lent: Lent, near: &dyn Policy, edges: Edges) {

@@ -2,7 +2,7 @@
 
 use reference::END;
 use reference::hours::{Hours, HoursRef, Pair};
-use reference::rota::{Rota, Row};
+use reference::rota::{ANY_ORDER, Rota, Row};
 
 use super::LIMITS;
 use crate::random::Random;
@@ -22,9 +22,7 @@ pub enum Sets {
 /// The numbers below `count`, shuffled.
 fn shuffled(random: &mut Random, count: u32) -> Vec<u32> {
     let mut numbers: Vec<u32> = (0..count).collect();
-    for last in (1..count).rev() {
-        numbers.swap(last as usize, random.between(0, last) as usize);
-    }
+    random.shuffle(&mut numbers);
     numbers
 }
 
@@ -77,6 +75,7 @@ fn with_roles(hours: Vec<Hours>, roles: u32, sets: Sets) -> Rota {
         (0..roles).flat_map(|role| (0..share).map(move |i| row(role, i))).collect()
     };
     Rota {
+        format: ANY_ORDER,
         cycle: LIMITS.cycle,
         hours,
         users: LIMITS.users as u8,

@@ -8,6 +8,7 @@ mod relay;
 mod rota;
 mod sized;
 mod table;
+mod tidy;
 mod weekly;
 
 pub use calls::{call, edges_near_spans, jump, jumping_call, next_edge, state};
@@ -22,6 +23,7 @@ pub use rota::{
 };
 pub use sized::rota_with_table;
 pub use table::{damaged_table, huge_counts, small_table, table, table_minute, table_of_rota};
+pub use tidy::{damaged_rows, respelled, tidy_rota};
 pub use weekly::weekly_rota;
 
 use reference::END;

@@ -4,11 +4,12 @@
 use std::ops::Range;
 
 use reference::hours::{Hours, HoursRef, Pair};
-use reference::rota::{Rota, Row};
+use reference::rota::{ANY_ORDER, Rota, Row};
 use reference::table::{self, DerivedRole, Table};
 use reference::{END, set};
 
 use super::table::some_set;
+use super::tidy::maybe_tidy;
 use super::{LIMITS, distinct, table_of_rota};
 use crate::random::Random;
 
@@ -119,7 +120,17 @@ pub fn relay_rota(random: &mut Random) -> Rota {
     let roles = (0..role_count)
         .map(|role| if by == 2 { HoursRef::Numbered(role) } else { HoursRef::Always })
         .collect();
-    Rota { cycle, hours, users, permissions, roles, user_rows, permission_rows }
+    let rota = Rota {
+        format: ANY_ORDER,
+        cycle,
+        hours,
+        users,
+        permissions,
+        roles,
+        user_rows,
+        permission_rows,
+    };
+    maybe_tidy(random, rota)
 }
 
 /// The table of such a rota, with eras of single roles divided further, so that eras of different

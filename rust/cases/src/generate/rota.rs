@@ -1,8 +1,9 @@
 //! Rotas, well formed and damaged.
 
 use reference::hours::{Hours, HoursRef};
-use reference::rota::{Rota, Row};
+use reference::rota::{ANY_ORDER, Rota, Row};
 
+use super::tidy::{maybe_tidy, order_fault};
 use super::{any_fault, count, cycle, hours, hours_fault, minute, put, room};
 use crate::random::Random;
 
@@ -41,7 +42,7 @@ fn hours_ref(random: &mut Random, count: usize) -> HoursRef {
     }
 }
 
-/// A random well-formed rota of those sizes.
+/// A random well-formed rota of those sizes, in format 1.
 pub fn rota_of(random: &mut Random, sizes: &Sizes) -> Rota {
     let mut left = sizes.pairs;
     let mut all_hours = Vec::new();
@@ -73,6 +74,7 @@ pub fn rota_of(random: &mut Random, sizes: &Sizes) -> Rota {
         user_rows[0] = *user_rows.last().expect("two rows");
     }
     Rota {
+        format: ANY_ORDER,
         cycle: sizes.cycle,
         hours: all_hours,
         users: sizes.users as u8,
@@ -98,10 +100,11 @@ pub fn sizes(random: &mut Random) -> Sizes {
     }
 }
 
-/// A rota of any size.
+/// A rota of any size, in either format.
 pub fn rota(random: &mut Random) -> Rota {
     let sizes = sizes(random);
-    rota_of(random, &sizes)
+    let rota = rota_of(random, &sizes);
+    maybe_tidy(random, rota)
 }
 
 /// A rota of any size with at least one of everything and several rows for each role, so that
@@ -120,7 +123,8 @@ pub fn granting_rota(random: &mut Random) -> Rota {
         permission_rows: sizes.permission_rows.max(3 * roles),
         ..sizes
     };
-    rota_of(random, &sizes)
+    let rota = rota_of(random, &sizes);
+    maybe_tidy(random, rota)
 }
 
 /// A rota with few of everything, and at least one of everything.
@@ -136,7 +140,8 @@ pub fn small_rota(random: &mut Random) -> Rota {
         user_rows: random.between(1, 5),
         permission_rows: random.between(1, 4),
     };
-    rota_of(random, &sizes)
+    let rota = rota_of(random, &sizes);
+    maybe_tidy(random, rota)
 }
 
 /// The rota with one to three more hours records that nothing refers to, where there is room.
@@ -194,6 +199,13 @@ pub fn rota_minute(random: &mut Random, rota: &Rota) -> u32 {
     minute(random, rota.cycle, &spans, &cuts)
 }
 
+/// Where the roles of a rota's bytes begin, its user rows and its permission rows.
+pub(super) fn places(rota: &Rota) -> [usize; 3] {
+    let roles_at = 12 + rota.hours.iter().map(Hours::size).sum::<usize>();
+    let user_rows_at = roles_at + rota.roles.len();
+    [roles_at, user_rows_at, user_rows_at + 3 * rota.user_rows.len()]
+}
+
 /// Breaks one rule of a rota's bytes, which `rota` describes as they were at first.
 fn rota_fault(random: &mut Random, rota: &Rota, bytes: &mut Vec<u8>) {
     let mut starts = Vec::new();
@@ -202,16 +214,15 @@ fn rota_fault(random: &mut Random, rota: &Rota, bytes: &mut Vec<u8>) {
         starts.push(at);
         at += record.size();
     }
-    let roles_at = at;
-    let user_rows_at = roles_at + rota.roles.len();
-    let permission_rows_at = user_rows_at + 3 * rota.user_rows.len();
+    let [roles_at, user_rows_at, permission_rows_at] = places(rota);
     let hours = rota.hours.len() as u64;
     let near = |random: &mut Random, value: usize, limit: u64| {
         let value = value as u64;
         random.pick(&[0, value + 1, value.saturating_sub(1), limit, limit + 1, 255])
     };
-    match random.below(20) {
-        0 => put(bytes, 0, 2, random.pick(&[0, 2, 3, 256, 257, 65_535])),
+    match random.below(24) {
+        // 1 and 3 are the other format; in 8 bits 257 would wrap to 1, and 259 to 3.
+        0 => put(bytes, 0, 2, random.pick(&[0, 1, 2, 3, 3, 4, 256, 257, 259, 65_535])),
         1 => {
             let cycle = u64::from(rota.cycle);
             put(bytes, 2, 2, random.pick(&[0, 1, 40_320, 40_321, 65_535, cycle - 1, cycle + 1]));
@@ -239,11 +250,13 @@ fn rota_fault(random: &mut Random, rota: &Rota, bytes: &mut Vec<u8>) {
             let at = permission_rows_at + 3 * random.below(rows) as usize;
             row_fault(random, at, rota.permissions, rota, bytes);
         }
+        19 | 20 => order_fault(random, user_rows_at, rota.user_rows.len(), bytes),
+        21 | 22 => order_fault(random, permission_rows_at, rota.permission_rows.len(), bytes),
         _ => any_fault(random, bytes),
     }
 }
 
-fn row_fault(random: &mut Random, at: usize, limit: u8, rota: &Rota, bytes: &mut [u8]) {
+pub(super) fn row_fault(random: &mut Random, at: usize, limit: u8, rota: &Rota, bytes: &mut [u8]) {
     let hours = rota.hours.len() as u64;
     match random.below(3) {
         0 => put(bytes, at, 1, random.pick(&[u64::from(limit), 64, 255])),

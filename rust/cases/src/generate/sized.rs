@@ -2,7 +2,7 @@
 
 use reference::END;
 use reference::hours::{Hours, HoursRef};
-use reference::rota::{Rota, Row};
+use reference::rota::{ANY_ORDER, Rota, Row};
 
 use super::LIMITS;
 
@@ -25,6 +25,7 @@ pub fn rota_with_table(derived: u32, rows: u32) -> Rota {
         [1, third].map(|hours| Row::new(1, role, HoursRef::Numbered(hours)))
     };
     Rota {
+        format: ANY_ORDER,
         cycle: 2 * odd_minutes,
         hours,
         users: 2,

@@ -2,7 +2,7 @@
 
 use reference::END;
 use reference::hours::{Hours, HoursRef, Pair};
-use reference::rota::{Rota, Row};
+use reference::rota::{ANY_ORDER, Rota, Row};
 
 const DAY: u16 = 1_440;
 const WEEK: u16 = 7 * DAY;
@@ -45,6 +45,7 @@ pub fn weekly_rota() -> Rota {
         hours: if i.is_multiple_of(always) { HoursRef::Always } else { HoursRef::Numbered(i % 12) },
     };
     Rota {
+        format: ANY_ORDER,
         cycle: WEEK,
         hours,
         users: 20,

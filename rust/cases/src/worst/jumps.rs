@@ -3,7 +3,7 @@
 
 use reference::END;
 use reference::hours::{Hours, HoursRef, Pair};
-use reference::rota::{Rota, Row};
+use reference::rota::{ANY_ORDER, Rota, Row};
 use reference::table::{self, DerivedRole, Table};
 
 use super::{Cut, most_sets, reference};
@@ -82,6 +82,7 @@ fn handed_on_by(hours: Vec<Hours>, others: bool) -> Rota {
         Row::new((role + 2 * nth) as u8 % 64, role as u8, hours)
     };
     Rota {
+        format: ANY_ORDER,
         cycle: LIMITS.cycle,
         hours,
         users: LIMITS.users as u8,

@@ -111,6 +111,17 @@ pub fn compare_all<K: Kind>(
     questions: u32,
 ) {
     compare_read(case, tally, lent);
+    compare_answers(case, tally, lent, near, questions);
+}
+
+/// The questions alone, and who holds anything.
+pub fn compare_answers<K: Kind>(
+    case: &mut Case,
+    tally: &mut Tally,
+    lent: &Lent<K>,
+    near: &K,
+    questions: u32,
+) {
     for _ in 0..questions {
         compare_any_question(case, tally, lent, near);
     }

@@ -6,9 +6,11 @@ use reference::rewriting::{eras, touch};
 use reference::table::{self, Table};
 use reference::{Refusal, rewriting};
 
+use super::area;
 use super::asked::{self, compare_holders, compare_question, compare_read};
 use super::rota::some_rota;
 use crate::expected::rewriting::{Whole, whole};
+use crate::ffi::rewriting::Rewritten;
 use crate::{expected, ffi};
 
 /// A rota's bytes with the table that the reference makes of them, so that it makes it once.
@@ -29,39 +31,24 @@ impl Lent {
     }
 }
 
-/// Bytes kept before and after the area, which nobody may touch.
-const MARGIN: usize = 64;
-
-/// Rewrites into an area of that size, filled at random, inside more such bytes: compares the
-/// outcome and every byte, and has the proved reader read the table. The area begins at any
-/// place, so that numbers lie at odd ones too.
+/// Rewrites into an area of that size, compares the outcome and every byte, and has the proved
+/// reader read the table.
 pub fn compare(case: &mut Case, tally: &mut Tally, lent: &Lent, size: usize) -> u32 {
-    let from = MARGIN + case.random.below(8) as usize;
-    let area = from..from + size;
-    let filling = case.random.bytes((area.end + MARGIN).min(1 << 16));
-    let mut expected_memory: Vec<u8> =
-        filling.iter().copied().cycle().take(area.end + MARGIN).collect();
-    let mut memory = expected_memory.clone();
-
-    let expected = expected::rewriting::rewrite(&lent.whole, &mut expected_memory[area.clone()]);
-    let proved = ffi::rewriting::rewrite(&lent.bytes, &mut memory[area.clone()]);
-    tally.add(expected.refusal);
-    let what = ("rewrite", "area", size);
-    case.same(proved, expected, &lent.bytes, what);
-    if memory != expected_memory {
-        let differs = |i: &usize| memory[*i] != expected_memory[*i];
-        let at = (0..memory.len()).find(differs).expect("they differ");
-        // A byte's place is counted from the area's start; it may lie before it or past its end.
-        let place = at as i64 - from as i64;
-        case.same(memory[at], expected_memory[at], &lent.bytes, (what, "byte", place));
-    }
-    if expected.refusal == 0 {
-        let table = &memory[from..from + expected.length as usize];
-        let read = ffi::table::read(table);
+    let written = area::compare(
+        case,
+        &lent.bytes,
+        ("rewrite", size),
+        |area| expected::rewriting::rewrite(&lent.whole, area),
+        |area| ffi::rewriting::rewrite(&lent.bytes, area),
+    );
+    let Rewritten { refusal, derived, rows, length } = written.told;
+    tally.add(refusal);
+    if refusal == 0 {
+        let read = ffi::table::read(written.first(length));
         let counts = (read.refusal, read.derived, read.rows);
-        case.same(counts, (0, expected.derived, expected.rows), &lent.bytes, "read the table");
+        case.same(counts, (0, derived, rows), &lent.bytes, "read the table");
     }
-    expected.refusal
+    refusal
 }
 
 /// Areas of exactly the size, one byte less, one more, none, much larger, one that is too small by

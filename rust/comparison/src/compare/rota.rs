@@ -2,7 +2,7 @@
 
 use cases::case::{Case, Tally};
 use cases::random::Random;
-use cases::{data, generate};
+use cases::{data, generate, tidying};
 use reference::Refusal;
 use reference::page::Question;
 use reference::rota::Rota;
@@ -90,6 +90,16 @@ pub fn several_faults(case: &mut Case, tally: &mut Tally) {
     let rota = some_rota(&mut case.random, 8);
     let bytes = generate::damaged_rota(&mut case.random, &rota);
     compare_all(case, tally, &Lent::new(bytes), &rota, 1);
+}
+
+/// Rows of a tidy rota alone, out of range and out of order.
+pub fn damaged_rows(case: &mut Case, tally: &mut Tally) {
+    let rota = generate::tidy_rota(&mut case.random);
+    let bytes = generate::damaged_rows(&mut case.random, &rota);
+    let lent = Lent::new(bytes);
+    let refusal = tidying::first_fault(tally, &lent.bytes, &rota);
+    assert_eq!(lent.parsed.as_ref().err().copied().unwrap_or(0), refusal);
+    compare_all(case, tally, &lent, &rota, 1);
 }
 
 /// Any bytes from some place on, mostly behind a header that passes, so that the records are read

@@ -31,6 +31,15 @@ impl Both {
         Both { rota: Ok(rota), rota_bytes, table_bytes, edges }
     }
 
+    /// The same with the bytes of the tidy rota, by the proved tidying, and their table. The machine
+    /// is given the rota as it is.
+    pub fn tidied(rota: Rota) -> Both {
+        let both = Both::new(rota);
+        let rota_bytes = ffi::tidying::tidied(&both.rota_bytes);
+        let table_bytes = ffi::rewriting::table(&rota_bytes);
+        Both { rota_bytes, table_bytes, ..both }
+    }
+
     pub fn rota(&self) -> &Rota {
         self.rota.as_ref().expect("accepted")
     }
@@ -149,6 +158,14 @@ fn some_rota(case: &mut Case) -> Rota {
 pub fn list(case: &mut Case, tally: &mut Tally) {
     let both = Both::new(some_rota(case));
     fresh_calls(case, tally, &both, 120);
+}
+
+/// A list of calls on the tidy rota and on its table.
+pub fn list_on_a_tidy_rota(case: &mut Case, tally: &mut Tally) {
+    let rota = some_rota(case);
+    let both = Both::tidied(generate::respelled(&mut case.random, &rota));
+    tally.count_if(both.rota_bytes[2..] != both.rota().encode()[2..], "tidied");
+    fresh_calls(case, tally, &both, 60);
 }
 
 pub fn odd_states(case: &mut Case, tally: &mut Tally) {

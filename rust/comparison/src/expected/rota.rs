@@ -18,6 +18,7 @@ pub fn read(rota: &Result<Rota, Refusal>) -> RotaRead {
             roles: rota.roles.len() as u32,
             user_rows: rota.user_rows.len() as u32,
             permission_rows: rota.permission_rows.len() as u32,
+            format: rota.format.into(),
         },
         Err(refusal) => RotaRead { refusal: *refusal, ..RotaRead::default() },
     }

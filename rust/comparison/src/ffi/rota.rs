@@ -13,6 +13,7 @@ pub struct RotaRead {
     pub roles: u32,
     pub user_rows: u32,
     pub permission_rows: u32,
+    pub format: u32,
 }
 
 #[repr(C)]
