@@ -156,7 +156,7 @@ fn judge_each(refusal: u8, s: &[u8], h: usize, roles: usize, top: usize, at: usi
     requires { ⌜ RowsKnown refusal (now s) h roles top at n × (formatOf (now s) ≡ 3) ⌝ }
     ensures { λ r. ⌜ r ≡ inTurn (rowJudged refusal top (now (s .entry)) at) n ⌝ }
 {
-    let mut low = 0;
+    let mut above = 0;
     let mut k = 0;
     while k < n {
         let i = at + 3 * k;
@@ -164,10 +164,10 @@ fn judge_each(refusal: u8, s: &[u8], h: usize, roles: usize, top: usize, at: usi
             return refusal;
         }
         let key = key_at(s, i);
-        if key < low {
+        if key < above {
             return 52;
         }
-        low = key + 1;
+        above = key + 1;
         k += 1;
     }
     0

@@ -13,12 +13,13 @@ ghost use Rattle.table.specs.TableBytes.{tableOf};
 ghost use Rattle.table.specs.TableRefusals.{tableJudged};
 ghost use Rattle.table.specs.Answers.{readOutcome as tableRead};
 ghost use Rattle.board.specs.Board.{boardTold, boardOutcome};
+ghost use Rattle.tidying.specs.Tidy.{tidyOutcome, areaTidied};
 ghost use Rattle.derivation.specs.Rewriting.{rewriteOutcome, areaAfter};
 ghost use Rattle.lent.specs.declared.Kind.the-variants as Kind;
 ghost use Rattle.page.specs.Page.{pageJudged, pageAfter};
 ghost use Rattle.machine.specs.Machine.{advance, «open», close, ask};
 ghost use Rattle.service.specs.LentStep.{lentStep};
-ghost use Rattle.told.specs.Told.{questionTold, nextTold, leaving, steppedBy, rotaTold, tableTold, writtenTold, dateTold, minuteTold};
+ghost use Rattle.told.specs.Told.{questionTold, nextTold, leaving, steppedBy, rotaTold, tableTold, tidiedTold, writtenTold, dateTold, minuteTold};
 use board::Board;
 use machine::Service;
 use page::Question;
@@ -27,6 +28,7 @@ use told::MinuteTold;
 use told::NextTold;
 use told::RotaTold;
 use told::TableTold;
+use told::TidiedTold;
 use told::Told;
 use told::WrittenTold;
 
@@ -42,6 +44,14 @@ pub extern "C" fn softlode_table_read(s: &[u8]) -> TableTold
     ensures { λ r. ⌜ r ≡ tableTold (tableRead (now (s .entry))) ⌝ }
 {
     told::tell_table(table_reader::read(s))
+}
+
+// Tidies a rota into the area `out`.
+#[no_mangle]
+pub extern "C" fn softlode_rota_tidy(s: &[u8], out: &mut [u8]) -> TidiedTold
+    ensures { λ r. ⌜ (r ≡ tidiedTold (tidyOutcome (now (s .entry)) (length (now (out .entry))))) × (now (out .exit) ≡ areaTidied (now (s .entry)) (now (out .entry))) ⌝ }
+{
+    told::tell_tidied(tidy_rota::tidy(s, out))
 }
 
 // Rewrites a rota into the area `out`.

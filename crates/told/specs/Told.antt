@@ -10,6 +10,7 @@ use Rattle.machine.specs.Machine.{Gift, Step, closed, done, answered}
 use Rattle.machine.specs.declared.Service.{Service}
 use Rattle.told.specs.declared.RotaTold.{RotaTold}
 use Rattle.told.specs.declared.TableTold.{TableTold}
+use Rattle.told.specs.declared.TidiedTold.{TidiedTold}
 use Rattle.told.specs.declared.WrittenTold.{WrittenTold}
 use Rattle.told.specs.declared.DateTold.{DateTold}
 use Rattle.told.specs.declared.MinuteTold.{MinuteTold}
@@ -24,6 +25,10 @@ rotaTold (given c) = record { refusal = 0; cycle = c .cycle; hours = c .hours; u
 abbrev pub tableTold : Outcome table.Counts → TableTold
 tableTold (refused n) = record { refusal = n; cycle = 0; users = 0; permissions = 0; roles = 0; derived = 0; rows = 0 }
 tableTold (given c) = record { refusal = 0; cycle = c .cycle; users = c .users; permissions = c .permissions; roles = c .roles; derived = c .derived; rows = c .rows }
+
+abbrev pub tidiedTold : Outcome ℕ → TidiedTold
+tidiedTold (refused n) = record { refusal = n; length = 0 }
+tidiedTold (given n) = record { refusal = 0; length = n }
 
 abbrev pub writtenTold : Outcome Written → WrittenTold
 writtenTold (refused n) = record { refusal = n; derived = 0; rows = 0; length = 0 }

@@ -5,9 +5,10 @@ ghost use Rattle.policy.specs.Policy.{answerGiven};
 ghost use Rattle.rota.specs.Answers.{rotaGiven};
 ghost use Rattle.table.specs.Answers.{tableGiven};
 ghost use Rattle.area.specs.Answers.{writtenGiven};
+ghost use Rattle.tidy_rota.specs.Answers.{tidiedGiven};
 ghost use Rattle.machine.specs.Answers.{advancedStep, changedStep, askedStep};
 ghost use Rattle.table_times.specs.Next.{nextGiven};
-ghost use Rattle.told.specs.Told.{telling, questionTold, nextTold, leaving, steppedBy, rotaTold, tableTold, writtenTold, dateTold, minuteTold};
+ghost use Rattle.told.specs.Told.{telling, questionTold, nextTold, leaving, steppedBy, rotaTold, tableTold, tidiedTold, writtenTold, dateTold, minuteTold};
 use area::Rewritten;
 use calendar::DateAnswer;
 use calendar::MinuteAnswer;
@@ -19,6 +20,7 @@ use policy::Answer;
 use rota::RotaAnswer;
 use table::TableAnswer;
 use table_times::Next;
+use tidy_rota::Tidied;
 
 // What reading a rota tells: the counts of its header.
 #[repr(C)]
@@ -44,6 +46,13 @@ pub struct TableTold {
     pub roles: u32,
     pub derived: u32,
     pub rows: u32,
+}
+
+// What tidying tells: the tidy rota's length.
+#[repr(C)]
+pub struct TidiedTold {
+    pub refusal: u32,
+    pub length: u64,
 }
 
 // What rewriting tells: the table's derived roles, rows and length.
@@ -122,6 +131,21 @@ pub fn tell_table(a: TableAnswer) -> TableTold
             roles: 0,
             derived: 0,
             rows: 0,
+        },
+    }
+}
+
+pub fn tell_tidied(a: Tidied) -> TidiedTold
+    ensures { λ r. ⌜ r ≡ tidiedTold (tidiedGiven a) ⌝ }
+{
+    match a {
+        Tidied::Wrote(length) => TidiedTold {
+            refusal: 0,
+            length: length as u64,
+        },
+        Tidied::Refused(n) => TidiedTold {
+            refusal: n as u32,
+            length: 0,
         },
     }
 }

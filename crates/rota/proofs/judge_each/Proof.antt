@@ -15,11 +15,11 @@ use Rattle.rota.proofs.judge_each.Statement.{statement}
 use Rattle.rota.proofs.judge_each.Tie as tie
 
 abbrev Inv-loop : tie.InvT-loop
-Inv-loop refusal s h roles top at n low₀ k₀ low k =
-    (k ≤ n) × (low ≤ 16777216) × (low ≡ least (rowAt s at) k) × (inTurn (rowJudged refusal top s at) k ≡ 0)
+Inv-loop refusal s h roles top at n above₀ k₀ above k =
+    (k ≤ n) × (above ≤ 16777216) × (above ≡ least (rowAt s at) k) × (inTurn (rowJudged refusal top s at) k ≡ 0)
 
 abbrev μ-loop : tie.MeasureT-loop
-μ-loop refusal s h roles top at n low₀ k₀ low k = n - k
+μ-loop refusal s h roles top at n above₀ k₀ above k = n - k
 
 loop-holds : tie.Need-loop-holds Inv-loop μ-loop
 loop-holds c = (search needs, search needs, least-none _, turns-none _)
@@ -62,8 +62,8 @@ returns-2 c =
     (row-falls _ _ (p .0 .hours) _ _ _ _ (λ i. omega (arith, known .given i)) (p .0 .roles-are) (p .1) _ _ _
     (sym (c .before .before .before .row-out .ensures) ∙ c .before .before .if1 .left) (c .before .key-at .ensures .0) (i .2) (c .if2 .taken)))
 
-add-low : tie.Need-add-low Inv-loop μ-loop
-add-low c = omega (arith, c .before .key-at .ensures .1)
+add-above : tie.Need-add-above Inv-loop μ-loop
+add-above c = omega (arith, c .before .key-at .ensures .1)
 
 add-k : tie.Need-add-k Inv-loop μ-loop
 add-k c = omega (arith, c .before .before .before .before .loop-test .taken, c .before .before .before .before .before .before .before .good)
@@ -103,7 +103,7 @@ judge-each-spec =
     returns
     key-at-requires
     returns-2
-    add-low
+    add-above
     add-k
     loop-less
     loop-again

@@ -28,17 +28,17 @@ returns c =
     let p = c .before .before .before .before .before .pre in
     sym (refuse-yes _ _ (c .if2 .taken))
     ∙ rows-judged _ _ (p .hours) _ _ _ _ (λ i. omega (arith, c .before .before .before .before .shared-slice-known .given i)) (p .roles-are) _ _
-    (λ e. c .before .if1 .taken (c .before .before .read16 .ensures ∙ e)) (c .before .before .before .rows-out .ensures)
+    (λ e. c .before .if1 .taken (omega (arith, c .before .before .read16 .ensures, e))) (c .before .before .before .rows-out .ensures)
 
 returns-2 : tie.Need-returns-2
 returns-2 c =
     let p = c .before .before .before .before .before .pre in
     sym (refuse-none (c .before .before .before .before .before .args .refusal) _ (c .if2 .left))
     ∙ rows-judged _ _ (p .hours) _ _ _ _ (λ i. omega (arith, c .before .before .before .before .shared-slice-known .given i)) (p .roles-are) _ _
-    (λ e. c .before .if1 .taken (c .before .before .read16 .ensures ∙ e)) (c .before .before .before .rows-out .ensures)
+    (λ e. c .before .if1 .taken (omega (arith, c .before .before .read16 .ensures, e))) (c .before .before .before .rows-out .ensures)
 
 judge-each-requires : tie.Need-judge-each-requires
-judge-each-requires c κs = (c .before .before .before .before .before .pre, sym (c .before .before .read16 .ensures) ∙ c .before .if1 .left)
+judge-each-requires c κs = (c .before .before .before .before .before .pre, omega (arith, c .before .before .read16 .ensures, c .before .if1 .left))
 
 returns-3 : tie.Need-returns-3
 returns-3 c = c .judge-each .ensures
@@ -51,7 +51,7 @@ returns-4 c =
     let p = c .before .before .before .before .before .before .before .pre in
     sym (refuse-yes 52 _ (c .if4 .taken))
     ∙ rows-ordered _ _ (p .hours) _ _ _ _ (λ i. omega (arith, c .before .before .before .before .before .before .shared-slice-known .given i)) (p .roles-are)
-    (sym (c .before .before .before .before .read16 .ensures) ∙ c .before .before .before .if1 .left) _ _
+    (omega (arith, c .before .before .before .before .read16 .ensures, c .before .before .before .if1 .left)) _ _
     (sym (c .before .before .before .before .before .rows-out .ensures) ∙ c .before .before .if3 .left) (c .before .any-falls .ensures)
 
 returns-5 : tie.Need-returns-5
@@ -59,7 +59,7 @@ returns-5 c =
     let p = c .before .before .before .before .before .before .before .pre in
     sym (refuse-none 52 _ (c .if4 .left))
     ∙ rows-ordered _ _ (p .hours) _ _ _ _ (λ i. omega (arith, c .before .before .before .before .before .before .shared-slice-known .given i)) (p .roles-are)
-    (sym (c .before .before .before .before .read16 .ensures) ∙ c .before .before .before .if1 .left) _ _
+    (omega (arith, c .before .before .before .before .read16 .ensures, c .before .before .before .if1 .left)) _ _
     (sym (c .before .before .before .before .before .rows-out .ensures) ∙ c .before .before .if3 .left) (c .before .any-falls .ensures)
 
 pub judge-rows-spec : {M : Type 1} → statement M
