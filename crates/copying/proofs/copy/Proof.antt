@@ -1,5 +1,5 @@
 -- The bytes so far are copied.
-use Prim.Native.Nat.{_-_, _≤_}
+use Prim.Native.Nat.{_+_, _-_, _≤_, _<_}
 use mathlib.Core.Path.{_≡_, refl}
 use native.Mathlib.Nat.{le-antisymm}
 use native.Mathlib.Omega.{arith}
@@ -40,10 +40,11 @@ loop-less c = search needs
 loop-again : tie.Need-loop-again Inv-loop μ-loop
 loop-again c =
     let a = c .before .before .before .args in
-    let l = c .before .before .loop in (
+    let l = c .before .before .loop in
+    let within : a .from + l .i < length (a .s .now) = omega (arith, c .before .loop-test .taken, c .before .before .before .pre .1) in (
       omega arith,
       simp length-set (omega arith),
-      copy-turn (a .s .now) (a .from) (l .i) (omega (arith, c .before .loop-test .taken, c .before .before .before .pre .1)) (a .out .now) (a .to) (l .inv .2),
+      copy-turn (a .s .now) (a .from) (l .i) within (a .out .now) (a .to) (l .inv .2),
     )
 
 same-length : tie.Need-same-length Inv-loop μ-loop
