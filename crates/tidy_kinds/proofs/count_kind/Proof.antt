@@ -1,0 +1,24 @@
+-- Rows that are in order already are counted as they are.
+use mathlib.Core.Path.{sym, _∙_}
+use borrow.Author.Needs.{needs}
+use borrow.Author.Tests.{not-true}
+use Rattle.tidy_kinds.proofs.OrderedLaws.{in-order-long}
+use Rattle.tidy_kinds.proofs.count_kind.Statement.{statement}
+use Rattle.tidy_kinds.proofs.count_kind.Tie as tie
+
+any-falls-requires : tie.Need-any-falls-requires
+any-falls-requires c κs = search needs
+
+returns : tie.Need-returns
+returns c =
+    let a = c .before .before .before .args in
+    in-order-long (a .s .now) (a .at) (a .n) (c .before .before .before .pre) (sym (c .before .any-falls .ensures) ∙ not-true _ (c .if1 .taken))
+
+count-many-requires : tie.Need-count-many-requires
+count-many-requires c κs = search needs
+
+returns-2 : tie.Need-returns-2
+returns-2 c = search needs
+
+pub count-kind-spec : {M : Type 1} → statement M
+count-kind-spec = tie.close (tie.spec any-falls-requires returns count-many-requires returns-2)
