@@ -1,3 +1,4 @@
 pub mod SlotLaws
 pub mod PlaceLaws
+pub mod MarkLaws
 pub mod MemberLaws

@@ -1,3 +1,4 @@
+pub mod PartLaws
 pub mod SlotRowLaws
 pub mod OutLaws
 pub mod PutLaws
