@@ -38,7 +38,7 @@ row-long w = refl
 pub rows-long : (s : List ℕ) (at n : ℕ) → length (kindBytes s at n) ≡ 3 * length (kindRows s at n)
 rows-long s at n = joined-length rowBytes 3 row-long (kindRows s at n)
 
-rows-fewer : (s : List ℕ) (at n : ℕ) → length (kindRows s at n) ≤ n
+pub rows-fewer : (s : List ℕ) (at n : ℕ) → length (kindRows s at n) ≤ n
 rows-fewer s at n = omega (arith, tidy-fewer (listOf n (rowAt s at)), listOf-length n (rowAt s at))
 
 -- the parts after the first, taken together

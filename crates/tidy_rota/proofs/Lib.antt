@@ -1,2 +1,3 @@
 pub mod BytesLaws
 pub mod PutLaws
+pub mod LocatedLaws

@@ -1,63 +1,60 @@
+-- The parts are stored one by one, and the header last.
+use native.Mathlib.Omega.{arith}
 use borrow.Author.Needs.{needs}
+use Rattle.tidy_rota.proofs.LocatedLaws.{users-kind, permissions-kind, users-most, permissions-most, long, within, length-is, put-all}
 use Rattle.tidy_rota.proofs.put_tidy.Statement.{statement}
 use Rattle.tidy_rota.proofs.put_tidy.Tie as tie
-use Rattle.tidy_rota.proofs.put_tidy.Reads as reads
-use Rattle.tidy_rota.proofs.put_tidy.Lts as lts
-use Rattle.copying.proofs.copy.Reads as copy-reads
-use Rattle.tidy_kinds.proofs.put_kind.Reads as put-kind-reads
-use Rattle.tidy_rota.proofs.put_header.Reads as put-header-reads
 
--- src/lib.rt:60:51
 sub-copy : tie.Need-sub-copy
-sub-copy c = ?
+sub-copy c = omega (arith, within (c .before .before .before .before .before .args .s .now) (c .before .before .before .before .before .args .l) (c .before .before .before .before .before .pre .0))
 
--- src/lib.rt:60:5
 copy-requires : tie.Need-copy-requires
-copy-requires c κs = ?
+copy-requires c κs =
+    let w = within (c .before .before .before .before .before .args .s .now) (c .before .before .before .before .before .args .l) (c .before .before .before .before .before .pre .0) in
+    (omega (arith, w, c .before .before .before .before .before .pre .1, length-is (c .before .before .before .before .before .args .s .now) (c .before .before .before .before .before .args .l) (c .before .before .before .before .before .pre .0) (λ i. omega (arith, c .before .before .before .before .shared-slice-known .given i))), omega (arith, w))
 
--- src/lib.rt:61:61
 cast-put-kind : tie.Need-cast-put-kind
 cast-put-kind c = search needs
 
--- src/lib.rt:61:9
 put-kind-requires : tie.Need-put-kind-requires
-put-kind-requires c κs = ?
+put-kind-requires c κs =
+    (users-kind (c .before .before .before .before .before .before .before .before .before .before .args .s .now) (c .before .before .before .before .before .before .before .before .before .before .args .l) (c .before .before .before .before .before .before .before .before .before .before .pre .0), omega (arith, c .before .before .before .before .before .before .before .before .before .before .pre .1, length-is (c .before .before .before .before .before .before .before .before .before .before .args .s .now) (c .before .before .before .before .before .before .before .before .before .before .args .l) (c .before .before .before .before .before .before .before .before .before .before .pre .0) (λ i. omega (arith, c .before .before .before .before .before .before .before .before .before .shared-slice-known .given i))))
 
--- src/lib.rt:62:74
 cast-put-kind-2 : tie.Need-cast-put-kind-2
 cast-put-kind-2 c = search needs
 
--- src/lib.rt:62:9
 put-kind-requires-2 : tie.Need-put-kind-requires-2
-put-kind-requires-2 c κs = ?
+put-kind-requires-2 c κs =
+    (permissions-kind (c .before .before .before .before .before .before .before .before .before .before .before .before .before .before .before .args .s .now) (c .before .before .before .before .before .before .before .before .before .before .before .before .before .before .before .args .l) (c .before .before .before .before .before .before .before .before .before .before .before .before .before .before .before .pre .0), omega (arith, c .before .before .before .before .put-kind .ensures .1, c .before .before .before .before .before .before .before .before .before .before .before .before .before .before .before .pre .1, length-is (c .before .before .before .before .before .before .before .before .before .before .before .before .before .before .before .args .s .now) (c .before .before .before .before .before .before .before .before .before .before .before .before .before .before .before .args .l) (c .before .before .before .before .before .before .before .before .before .before .before .before .before .before .before .pre .0) (λ i. omega (arith, c .before .before .before .before .before .before .before .before .before .before .before .before .before .before .shared-slice-known .given i))))
 
--- src/lib.rt:63:26
 sub-put-header : tie.Need-sub-put-header
 sub-put-header c = search needs
 
--- src/lib.rt:63:24
 cast-put-header : tie.Need-cast-put-header
-cast-put-header c = ?
+cast-put-header c = omega (arith, c .before .before .before .before .before .before .before .before .put-kind .ensures .1, users-most (c .before .before .before .before .before .before .before .before .before .before .before .before .before .before .before .before .before .before .before .args .s .now) (c .before .before .before .before .before .before .before .before .before .before .before .before .before .before .before .before .before .before .before .args .l) (c .before .before .before .before .before .before .before .before .before .before .before .before .before .before .before .before .before .before .before .pre .0))
 
--- src/lib.rt:63:57
 sub-put-header-2 : tie.Need-sub-put-header-2
 sub-put-header-2 c = search needs
 
--- src/lib.rt:63:55
 cast-put-header-2 : tie.Need-cast-put-header-2
-cast-put-header-2 c = ?
+cast-put-header-2 c = omega (arith, c .before .before .before .put-kind2 .ensures .1, permissions-most (c .before .before .before .before .before .before .before .before .before .before .before .before .before .before .before .before .before .before .before .args .s .now) (c .before .before .before .before .before .before .before .before .before .before .before .before .before .before .before .before .before .before .before .args .l) (c .before .before .before .before .before .before .before .before .before .before .before .before .before .before .before .before .before .before .before .pre .0))
 
--- src/lib.rt:63:5
 put-header-requires : tie.Need-put-header-requires
-put-header-requires c κs = ?
+put-header-requires c κs =
+    (omega (arith, c .before .before .before .before .before .before .before .before .before .before .before .before .before .before .before .before .before .before .before .pre .1, length-is (c .before .before .before .before .before .before .before .before .before .before .before .before .before .before .before .before .before .before .before .args .s .now) (c .before .before .before .before .before .before .before .before .before .before .before .before .before .before .before .before .before .before .before .args .l) (c .before .before .before .before .before .before .before .before .before .before .before .before .before .before .before .before .before .before .before .pre .0) (λ i. omega (arith, c .before .before .before .before .before .before .before .before .before .before .before .before .before .before .before .before .before .before .shared-slice-known .given i)), within (c .before .before .before .before .before .before .before .before .before .before .before .before .before .before .before .before .before .before .before .args .s .now) (c .before .before .before .before .before .before .before .before .before .before .before .before .before .before .before .before .before .before .before .args .l) (c .before .before .before .before .before .before .before .before .before .before .before .before .before .before .before .before .before .before .before .pre .0)), long (c .before .before .before .before .before .before .before .before .before .before .before .before .before .before .before .before .before .before .before .args .s .now) (c .before .before .before .before .before .before .before .before .before .before .before .before .before .before .before .before .before .before .before .args .l) (c .before .before .before .before .before .before .before .before .before .before .before .before .before .before .before .before .before .before .before .pre .0))
 
--- src/lib.rt:54:1
 same-length : tie.Need-same-length
 same-length c = search needs
 
--- src/lib.rt:54:1
 returns : tie.Need-returns
-returns c = ?
+returns c =
+    let a = c .before .before .before .before .before .before .before .before .before .before .before .before .before .before .before .before .before .before .before .before .before .before .args in
+    let first = c .before .before .before .before .before .before .before .before .before .before .before .put-kind .ensures in
+    let second = c .before .before .before .before .before .before .put-kind2 .ensures in
+    let e = length-is (c .before .before .before .before .before .before .before .before .before .before .before .before .before .before .before .before .before .before .before .before .before .before .args .s .now) (c .before .before .before .before .before .before .before .before .before .before .before .before .before .before .before .before .before .before .before .before .before .before .args .l) (c .before .before .before .before .before .before .before .before .before .before .before .before .before .before .before .before .before .before .before .before .before .before .pre .0) (λ i. omega (arith, c .before .before .before .before .before .before .before .before .before .before .before .before .before .before .before .before .before .before .before .before .before .shared-slice-known .given i)) in
+    (put-all (c .before .before .before .before .before .before .before .before .before .before .before .before .before .before .before .before .before .before .before .before .before .before .args .s .now) (c .before .before .before .before .before .before .before .before .before .before .before .before .before .before .before .before .before .before .before .before .before .before .args .l) (c .before .before .before .before .before .before .before .before .before .before .before .before .before .before .before .before .before .before .before .before .before .before .pre .0) (λ i. omega (arith, c .before .before .before .before .before .before .before .before .before .before .before .before .before .before .before .before .before .before .before .before .before .shared-slice-known .given i)) (a .out .now) _ _ _ _ _ _ _ (first .1) (omega (arith, first .1)) (omega (arith, first .1, second .1))
+    (c .before .before .before .before .before .before .before .before .before .before .before .before .before .before .before .before .copy .ensures) (first .0) (second .0) (c .before .before .put-header .ensures),
+    omega (arith, first .1, second .1, e))
 
 pub put-tidy-spec : {M : Type 1} → statement M
 put-tidy-spec =

@@ -1,45 +1,36 @@
+-- Where the rows begin, and three bytes for each.
+use native.Mathlib.Omega.{arith}
 use borrow.Author.Needs.{needs}
+use Rattle.tidy_rota.proofs.LocatedLaws.{users-kind, permissions-kind, users-most, permissions-most, within, length-is}
 use Rattle.tidy_rota.proofs.tidy_length.Statement.{statement}
 use Rattle.tidy_rota.proofs.tidy_length.Tie as tie
-use Rattle.tidy_rota.proofs.tidy_length.Reads as reads
-use Rattle.tidy_rota.proofs.tidy_length.Lts as lts
-use Rattle.tidy_kinds.proofs.count_kind.Reads as count-kind-reads
 
--- src/lib.rt:37:59
 cast-count-kind : tie.Need-cast-count-kind
 cast-count-kind c = search needs
 
--- src/lib.rt:37:9
 count-kind-requires : tie.Need-count-kind-requires
-count-kind-requires c κs = ?
+count-kind-requires c κs = users-kind (c .before .before .before .args .s .now) (c .before .before .before .args .l) (c .before .before .before .pre)
 
--- src/lib.rt:38:71
 cast-count-kind-2 : tie.Need-cast-count-kind-2
 cast-count-kind-2 c = search needs
 
--- src/lib.rt:38:9
 count-kind-requires-2 : tie.Need-count-kind-requires-2
-count-kind-requires-2 c κs = ?
+count-kind-requires-2 c κs = permissions-kind (c .before .before .before .before .before .args .s .now) (c .before .before .before .before .before .args .l) (c .before .before .before .before .before .pre)
 
--- src/lib.rt:39:22
 mul-result : tie.Need-mul-result
-mul-result c = ?
+mul-result c = omega (arith, c .before .before .count-kind .ensures, users-most (c .before .before .before .before .before .before .args .s .now) (c .before .before .before .before .before .before .args .l) (c .before .before .before .before .before .before .pre))
 
--- src/lib.rt:39:5
 add-result : tie.Need-add-result
-add-result c = ?
+add-result c = omega (arith, c .before .before .before .count-kind .ensures, users-most (c .before .before .before .before .before .before .before .args .s .now) (c .before .before .before .before .before .before .before .args .l) (c .before .before .before .before .before .before .before .pre), c .before .count-kind2 .ensures, permissions-most (c .before .before .before .before .before .before .before .args .s .now) (c .before .before .before .before .before .before .before .args .l) (c .before .before .before .before .before .before .before .pre), within (c .before .before .before .before .before .before .before .args .s .now) (c .before .before .before .before .before .before .before .args .l) (c .before .before .before .before .before .before .before .pre), c .before .before .before .before .before .before .before .good)
 
--- src/lib.rt:39:34
 mul-result-2 : tie.Need-mul-result-2
-mul-result-2 c = ?
+mul-result-2 c = omega (arith, c .before .before .before .count-kind .ensures, users-most (c .before .before .before .before .before .before .before .args .s .now) (c .before .before .before .before .before .before .before .args .l) (c .before .before .before .before .before .before .before .pre), c .before .count-kind2 .ensures, permissions-most (c .before .before .before .before .before .before .before .args .s .now) (c .before .before .before .before .before .before .before .args .l) (c .before .before .before .before .before .before .before .pre), within (c .before .before .before .before .before .before .before .args .s .now) (c .before .before .before .before .before .before .before .args .l) (c .before .before .before .before .before .before .before .pre), c .before .before .before .before .before .before .before .good)
 
--- src/lib.rt:39:5
 add-result-2 : tie.Need-add-result-2
-add-result-2 c = ?
+add-result-2 c = omega (arith, c .before .before .before .count-kind .ensures, users-most (c .before .before .before .before .before .before .before .args .s .now) (c .before .before .before .before .before .before .before .args .l) (c .before .before .before .before .before .before .before .pre), c .before .count-kind2 .ensures, permissions-most (c .before .before .before .before .before .before .before .args .s .now) (c .before .before .before .before .before .before .before .args .l) (c .before .before .before .before .before .before .before .pre), within (c .before .before .before .before .before .before .before .args .s .now) (c .before .before .before .before .before .before .before .args .l) (c .before .before .before .before .before .before .before .pre), c .before .before .before .before .before .before .before .good)
 
--- src/lib.rt:32:1
 returns : tie.Need-returns
-returns c = ?
+returns c = omega (arith, c .before .before .before .count-kind .ensures, c .before .count-kind2 .ensures, length-is (c .before .before .before .before .before .before .before .args .s .now) (c .before .before .before .before .before .before .before .args .l) (c .before .before .before .before .before .before .before .pre) (λ i. omega (arith, c .before .before .before .before .before .before .shared-slice-known .given i)))
 
 pub tidy-length-spec : {M : Type 1} → statement M
 tidy-length-spec =
