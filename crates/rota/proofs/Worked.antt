@@ -34,3 +34,9 @@ worked-minutes =
 pub worked-limits : (rotaJudged (set small 2 0) ≡ 3) × (rotaJudged (set (set small 2 129) 3 157) ≡ 3) × (rotaJudged (set small 26 4) ≡ 8) × (rotaJudged (take 53 small) ≡ 9)
 unfolding opened
 worked-limits = (refl, refl, refl, refl)
+
+-- format 2 gives 2; in format 3 S passes, and a row twice gives 52, which passes in format 1; a row that is out of range and out of order too gives 11
+pub worked-order : (rotaJudged (set small 0 2) ≡ 2) × (rotaJudged (set small 0 3) ≡ 0) × (rotaJudged (set (set (set small 0 3) 48 0) 50 0) ≡ 52)
+    × (rotaJudged (set (set small 48 0) 50 0) ≡ 0) × (rotaJudged (set (set (set (set small 0 3) 45 1) 48 0) 50 9) ≡ 11)
+unfolding opened
+worked-order = (refl, refl, refl, refl, refl)

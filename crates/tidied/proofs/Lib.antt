@@ -1,2 +1,3 @@
 pub mod RewriteLaws
 pub mod TidiedTheorems
+pub mod Worked

@@ -88,6 +88,6 @@ tidied-same s r a b =
     let v = accepted-well s a in
     let w = accepted-well r b in (
       (λ e. tidy-same-rota (rotaOf s) (rotaOf r) v w
-      (unique (tidy (rotaOf s)) (tidy (rotaOf r)) (tidy-rota-well (rotaOf s) v) (tidy-rota-well (rotaOf r) w) e)),
+          (unique (tidy (rotaOf s)) (tidy (rotaOf r)) (tidy-rota-well (rotaOf s) v) (tidy-rota-well (rotaOf r) w) e)),
       (λ e. ap rotaBytes (same-tidy (rotaOf s) (rotaOf r) e)),
     )

@@ -92,8 +92,13 @@ module _ (s : List ℕ) (b : Bytes s) (f : RotaFine s) where
   pub head-long : (m n : ℕ) → length (headBytes s m n) ≡ 12
   unfolding bytes16
   head-long m n =
-      omega (arith, length-append (bytes16 3 ++ take 6 (drop 2 s) ++ bytes16 m) (bytes16 n), length-append (bytes16 3 ++ take 6 (drop 2 s)) (bytes16 m),
-      length-append (bytes16 3) (take 6 (drop 2 s)), part-long s 2 6 (omega (arith, long)))
+      omega (
+        arith,
+        length-append (bytes16 3 ++ take 6 (drop 2 s) ++ bytes16 m) (bytes16 n),
+        length-append (bytes16 3 ++ take 6 (drop 2 s)) (bytes16 m),
+        length-append (bytes16 3) (take 6 (drop 2 s)),
+        part-long s 2 6 (omega (arith, long)),
+      )
 
   pub middle-long : length (middleBytes s) ≡ userRowsAt s - headerLength s
   middle-long = part-long s (headerLength s) (userRowsAt s - headerLength s) (omega (arith, f .ended, f .header .long, recordAt-is s (headerLength s) (hoursOf s)))
@@ -104,9 +109,19 @@ module _ (s : List ℕ) (b : Bytes s) (f : RotaFine s) where
       let m = length (kindRows s (userRowsAt s) (userRowsOf s)) in
       let n = length (kindRows s (permissionRowsAt s) (permissionRowsOf s)) in
       let e : length (tidyBytes s) ≡ length (headBytes s m n ++ (middleBytes s ++ userBytes s ++ permissionBytes s)) = ap length tidy-whole in
-      omega (arith, e, length-append (headBytes s m n) (middleBytes s ++ userBytes s ++ permissionBytes s), length-append (middleBytes s ++ userBytes s) (permissionBytes s),
-      length-append (middleBytes s) (userBytes s), head-long m n, middle-long, rows-long s (userRowsAt s) (userRowsOf s), rows-long s (permissionRowsAt s) (permissionRowsOf s),
-      header-length s, recordAt-is s (headerLength s) (hoursOf s))
+      omega (
+        arith,
+        e,
+        length-append (headBytes s m n) (middleBytes s ++ userBytes s ++ permissionBytes s),
+        length-append (middleBytes s ++ userBytes s) (permissionBytes s),
+        length-append (middleBytes s) (userBytes s),
+        head-long m n,
+        middle-long,
+        rows-long s (userRowsAt s) (userRowsOf s),
+        rows-long s (permissionRowsAt s) (permissionRowsOf s),
+        header-length s,
+        recordAt-is s (headerLength s) (hoursOf s),
+      )
 
   pub tidy-shorter : length (tidyBytes s) ≤ length s
   tidy-shorter =

@@ -43,10 +43,11 @@ module _ (s : List ℕ) (l : Layout) (w : Located s l) where
   long = omega (arith, fine s l w .header .long, header-length s)
 
   pub within : (l .«hours_at» ≡ 12) × (12 ≤ l .«user_rows_at») × (l .«user_rows_at» ≤ length s)
-  within =
-      (omega (arith, hours-at s l w, header-length s),
-      omega (arith, user-rows-at s l w, header-length s, recordAt-is s (headerLength s) (hoursOf s)),
-      omega (arith, user-rows-at s l w, fine s l w .ended))
+  within = (
+    omega (arith, hours-at s l w, header-length s),
+    omega (arith, user-rows-at s l w, header-length s, recordAt-is s (headerLength s) (hoursOf s)),
+    omega (arith, user-rows-at s l w, fine s l w .ended),
+  )
 
   module _ (b : Bytes s) where
     pub length-is : length (tidyBytes s)

@@ -66,7 +66,7 @@ header-put s out out₁ out₂ out₃ out₄ m n l e₁ e₂ e₃ e₄ =
     let h₂ : out₂ ≡ sets out 0 (bytes16 3 ++ take 6 (drop 2 s)) = sets-twice out 0 (bytes16 3) (take 6 (drop 2 s)) e₁ e₂ in
     let l₂ : 8 ≡ 0 + length (bytes16 3 ++ take 6 (drop 2 s)) = omega (arith, length-append (bytes16 3) (take 6 (drop 2 s)), six) in
     let h₃ : out₃ ≡ sets out 0 (bytes16 3 ++ take 6 (drop 2 s) ++ bytes16 m) =
-        sets-twice out 0 (bytes16 3 ++ take 6 (drop 2 s)) (bytes16 m) h₂ (e₃ ∙ ap (λ (k : ℕ). sets out₂ k (bytes16 m)) l₂) in
+    sets-twice out 0 (bytes16 3 ++ take 6 (drop 2 s)) (bytes16 m) h₂ (e₃ ∙ ap (λ (k : ℕ). sets out₂ k (bytes16 m)) l₂) in
     let l₃ : 10 ≡ 0 + length (bytes16 3 ++ take 6 (drop 2 s) ++ bytes16 m) = omega (arith, length-append (bytes16 3 ++ take 6 (drop 2 s)) (bytes16 m), l₂) in
     sets-twice out 0 (bytes16 3 ++ take 6 (drop 2 s) ++ bytes16 m) (bytes16 n) h₃ (e₄ ∙ ap (λ (k : ℕ). sets out₃ k (bytes16 n)) l₃)
 
@@ -123,7 +123,8 @@ module _ (s area : List ℕ) where
         → (given n ≡ tidyOutcome s (length area)) × (after ≡ areaTidied s area)
     unfolding tidyOutcome areaTidied refuse
     outcome-writes n after e en ea =
-        let j : tidyJudged s (length area) ≡ 0 = judged false e in
-        (ap given en ∙ outcome-given (tidyJudged s (length area)) _ j,
-        ea ∙ sets-eq (tidyBytes s) area 0 (omega (arith, ltb-false (length area) (length (tidyBytes s)) (sym e)))
-        ∙ ap (λ (k : ℕ). tidyBytes s ++ drop k area) (zero-add (length (tidyBytes s))) ∙ rw j refl)
+        let j : tidyJudged s (length area) ≡ 0 = judged false e in (
+          ap given en ∙ outcome-given (tidyJudged s (length area)) _ j,
+          ea ∙ sets-eq (tidyBytes s) area 0 (omega (arith, ltb-false (length area) (length (tidyBytes s)) (sym e)))
+              ∙ ap (λ (k : ℕ). tidyBytes s ++ drop k area) (zero-add (length (tidyBytes s))) ∙ rw j refl,
+        )

@@ -59,8 +59,19 @@ fn put_tidy(s: &[u8], l: Layout, out: &mut [u8]) -> usize
     let first = l.user_rows_at;
     copying::copy(out, l.hours_at, s, l.hours_at, first - l.hours_at);
     let second = tidy_kinds::put_kind(out, first, s, first, n.user_rows as usize);
-    let end = tidy_kinds::put_kind(out, second, s, l.permission_rows_at, n.permission_rows as usize);
-    put_header(out, s, ((second - first) / 3) as u16, ((end - second) / 3) as u16);
+    let end = tidy_kinds::put_kind(
+        out,
+        second,
+        s,
+        l.permission_rows_at,
+        n.permission_rows as usize,
+    );
+    put_header(
+        out,
+        s,
+        ((second - first) / 3) as u16,
+        ((end - second) / 3) as u16,
+    );
     end
 }
 

@@ -35,10 +35,11 @@ returns c =
     let a = c .before .before .before .before .before .before .before .before .args in
     let p = c .before .before .before .before .before .before .before .before .pre in
     let up = sym (c .before .before .before .before .before .any-falls .ensures) ∙ not-true _ (c .before .before .before .before .if1 .taken) in
-    let e = in-order-long (a .s .now) (a .at) (a .n) (p .0) up in
-    (c .before .before .copy .ensures
-    ∙ ap (sets (a .out .now) (a .to)) (in-order-bytes (a .s .now) (a .at) (a .n) (p .0) up (λ i. omega (arith, c .before .before .before .before .before .before .shared-slice-known .given i))),
-    omega (arith, e))
+    let e = in-order-long (a .s .now) (a .at) (a .n) (p .0) up in (
+      c .before .before .copy .ensures
+          ∙ ap (sets (a .out .now) (a .to)) (in-order-bytes (a .s .now) (a .at) (a .n) (p .0) up (λ i. omega (arith, c .before .before .before .before .before .before .shared-slice-known .given i))),
+      omega (arith, e),
+    )
 
 put-few-requires : tie.Need-put-few-requires
 put-few-requires c κs = search needs

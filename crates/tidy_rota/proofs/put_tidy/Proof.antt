@@ -51,10 +51,11 @@ returns c =
     let a = c .before .before .before .before .before .before .before .before .before .before .before .before .before .before .before .before .before .before .before .before .before .before .args in
     let first = c .before .before .before .before .before .before .before .before .before .before .before .put-kind .ensures in
     let second = c .before .before .before .before .before .before .put-kind2 .ensures in
-    let e = length-is (c .before .before .before .before .before .before .before .before .before .before .before .before .before .before .before .before .before .before .before .before .before .before .args .s .now) (c .before .before .before .before .before .before .before .before .before .before .before .before .before .before .before .before .before .before .before .before .before .before .args .l) (c .before .before .before .before .before .before .before .before .before .before .before .before .before .before .before .before .before .before .before .before .before .before .pre .0) (λ i. omega (arith, c .before .before .before .before .before .before .before .before .before .before .before .before .before .before .before .before .before .before .before .before .before .shared-slice-known .given i)) in
-    (put-all (c .before .before .before .before .before .before .before .before .before .before .before .before .before .before .before .before .before .before .before .before .before .before .args .s .now) (c .before .before .before .before .before .before .before .before .before .before .before .before .before .before .before .before .before .before .before .before .before .before .args .l) (c .before .before .before .before .before .before .before .before .before .before .before .before .before .before .before .before .before .before .before .before .before .before .pre .0) (λ i. omega (arith, c .before .before .before .before .before .before .before .before .before .before .before .before .before .before .before .before .before .before .before .before .before .shared-slice-known .given i)) (a .out .now) _ _ _ _ _ _ _ (first .1) (omega (arith, first .1)) (omega (arith, first .1, second .1))
-    (c .before .before .before .before .before .before .before .before .before .before .before .before .before .before .before .before .copy .ensures) (first .0) (second .0) (c .before .before .put-header .ensures),
-    omega (arith, first .1, second .1, e))
+    let e = length-is (c .before .before .before .before .before .before .before .before .before .before .before .before .before .before .before .before .before .before .before .before .before .before .args .s .now) (c .before .before .before .before .before .before .before .before .before .before .before .before .before .before .before .before .before .before .before .before .before .before .args .l) (c .before .before .before .before .before .before .before .before .before .before .before .before .before .before .before .before .before .before .before .before .before .before .pre .0) (λ i. omega (arith, c .before .before .before .before .before .before .before .before .before .before .before .before .before .before .before .before .before .before .before .before .before .shared-slice-known .given i)) in (
+      put-all (c .before .before .before .before .before .before .before .before .before .before .before .before .before .before .before .before .before .before .before .before .before .before .args .s .now) (c .before .before .before .before .before .before .before .before .before .before .before .before .before .before .before .before .before .before .before .before .before .before .args .l) (c .before .before .before .before .before .before .before .before .before .before .before .before .before .before .before .before .before .before .before .before .before .before .pre .0) (λ i. omega (arith, c .before .before .before .before .before .before .before .before .before .before .before .before .before .before .before .before .before .before .before .before .before .shared-slice-known .given i)) (a .out .now) _ _ _ _ _ _ _ (first .1) (omega (arith, first .1)) (omega (arith, first .1, second .1))
+          (c .before .before .before .before .before .before .before .before .before .before .before .before .before .before .before .before .copy .ensures) (first .0) (second .0) (c .before .before .put-header .ensures),
+      omega (arith, first .1, second .1, e),
+    )
 
 pub put-tidy-spec : {M : Type 1} → statement M
 put-tidy-spec =
