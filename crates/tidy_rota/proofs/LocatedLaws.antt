@@ -2,22 +2,25 @@
 --     users-kind, permissions-kind       the rows of both kinds
 --     length-is, no-longer               how long it is, and that it is no longer than the rota
 --     within, long                       where the rows begin and how long the bytes are
+--     tidy-already                       a rota of format 3
 --     put-all                            its parts, stored one by one
 -- Assumes nothing.
 use Prim.Native.Nat.{ℕ, _+_, _*_, _-_, _≤_}
-use mathlib.Core.Path.{_≡_, refl}
+use mathlib.Core.Path.{_≡_, refl, sym, ap, _∙_}
 use mathlib.Core.List.{List}
 use native.Mathlib.Omega.{arith}
 use lib.ListN.{length, take, drop}
-use lib.Seq.{sets}
+use lib.Seq.{sets, take-length}
 use Rattle.endian.specs.Numbers.{Bytes}
 use Rattle.hours_reader.proofs.RecordLaws.{recordAt-is}
-use Rattle.rota.specs.RotaBytes.{headerLength, hoursOf}
+use Rattle.rota.specs.RotaBytes.{headerLength, formatOf, hoursOf, rotaBytes, rotaOf}
 use Rattle.rota.specs.Inside.{Located}
 use Rattle.rota.specs.declared.Layout.{Layout}
 use Rattle.rota.proofs.HeaderLaws.{header-length}
+use Rattle.rota.proofs.RotaTheorems.{accepted-well, accepted-bytes}
 use Rattle.rota.proofs.LocatedLaws.{fine, counted, hours-at, user-rows-at, permission-rows-at}
 use Rattle.tidying.specs.Tidy.{tidyBytes}
+use Rattle.tidying.proofs.RotaLaws.{tidy-stays}
 use Rattle.tidying.specs.Inside.{KindFine, kindRows, kindBytes}
 use Rattle.tidy_rota.specs.Parts.{headBytes}
 use Rattle.tidy_rota.proofs.BytesLaws.{tidy-long, tidy-shorter, rows-fewer}
@@ -70,3 +73,13 @@ module _ (s : List ℕ) (l : Layout) (w : Located s l) where
     put-all =
         rw (user-rows-at s l w, permission-rows-at s l w, hours-at s l w, counted s l w .user-rows, counted s l w .permission-rows)
         (λ out out₁ out₂ out₃ out₄ second m n es em en. all-put s b (fine s l w) out out₁ out₂ out₃ out₄ _ second m n refl es em en)
+
+    module _ (e : l .counts .format ≡ 3) where
+      pub tidy-already : s ≡ tidyBytes s
+      unfolding tidyBytes rotaOf
+      tidy-already =
+          let format : formatOf s ≡ 3 = sym (counted s l w .format) ∙ e in
+          sym (ap rotaBytes (tidy-stays (rotaOf s) (accepted-well s (w .accepted)) format) ∙ accepted-bytes s b (w .accepted))
+
+      pub put-already : (out after : List ℕ) → after ≡ sets out 0 (take (length s) (drop 0 s)) → after ≡ sets out 0 (tidyBytes s)
+      put-already out after h = h ∙ ap (sets out 0) (take-length s ∙ tidy-already)

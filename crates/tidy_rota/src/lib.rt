@@ -28,12 +28,15 @@ fn put_header(out: &mut [u8], s: &[u8], user_rows: u16, permission_rows: u16)
     endian::write16(out, 10, permission_rows);
 }
 
-// How long the tidy rota is.
+// How long the tidy rota is. A rota of format 3 is tidy already.
 fn tidy_length(s: &[u8], l: Layout) -> usize
     requires { ⌜ Located (now s) l ⌝ }
     ensures { λ r. ⌜ r ≡ length (tidyBytes (now (s .entry))) ⌝ }
 {
     let n = l.counts;
+    if n.format == 3 {
+        return s.len();
+    }
     let users = tidy_kinds::count_kind(s, l.user_rows_at, n.user_rows as usize);
     let permissions = tidy_kinds::count_kind(s, l.permission_rows_at, n.permission_rows as usize);
     l.user_rows_at + 3 * users + 3 * permissions
@@ -56,6 +59,10 @@ fn put_tidy(s: &[u8], l: Layout, out: &mut [u8]) -> usize
     ensures { λ r. ⌜ (now (out .exit) ≡ stores (now (out .entry)) 0 (tidyBytes (now (s .entry)))) × (r ≡ length (tidyBytes (now (s .entry)))) ⌝ }
 {
     let n = l.counts;
+    if n.format == 3 {
+        copying::copy(out, 0, s, 0, s.len());
+        return s.len();
+    }
     let first = l.user_rows_at;
     copying::copy(out, l.hours_at, s, l.hours_at, first - l.hours_at);
     let second = tidy_kinds::put_kind(out, first, s, first, n.user_rows as usize);
