@@ -34,7 +34,8 @@ fn tidy_length(s: &[u8], l: Layout) -> usize
     ensures { λ r. ⌜ r ≡ length (tidyBytes (now (s .entry))) ⌝ }
 {
     let n = l.counts;
-    if n.format == 3 {
+    let format = n.format;
+    if format == 3 {
         return s.len();
     }
     let users = tidy_kinds::count_kind(s, l.user_rows_at, n.user_rows as usize);
