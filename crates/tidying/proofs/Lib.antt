@@ -3,3 +3,4 @@ pub mod OrderLaws
 pub mod FewerLaws
 pub mod TidyLaws
 pub mod RotaLaws
+pub mod WrittenLaws
