@@ -14,7 +14,7 @@ use native.Mathlib.Omega.{arith}
 use lib.ListN.{length}
 use lib.Seq.{take-length}
 use Rattle.ground.specs.Sequence.{listOf, joined, All}
-use Rattle.endian.specs.Numbers.{Bytes, u8At, u16At, bytes8, bytes16}
+use Rattle.endian.specs.Numbers.{Bytes, u8At, bytes8, bytes16}
 use Rattle.endian.proofs.PartLaws.{part, part-join, part-one, tiles, spell16}
 use Rattle.hours.specs.Hours.{refOf, refByte}
 use Rattle.hours.specs.declared.HoursRef.{HoursRef}

@@ -7,7 +7,7 @@
 --     tidied-same                         two rotas have one tidy rota exactly when they differ in format, order and repeats of rows alone
 -- Assumes nothing.
 use Prim.Native.Nat.{ℕ}
-use mathlib.Core.Path.{_≡_, refl, sym, ap, ap₂, _∙_}
+use mathlib.Core.Path.{_≡_, sym, ap, ap₂, _∙_}
 use mathlib.Core.Logic.{_↔_}
 use mathlib.Core.List.{List, _++_}
 use lib.Dec.{eqb, ltb}
@@ -24,7 +24,7 @@ use Rattle.rota.specs.RotaWell.{RotaWell}
 use Rattle.rota.proofs.RotaTheorems.{accepted-well, accepted-bytes, read-back, spelled-bytes, spelled-accepted, unique}
 use Rattle.table.specs.Table.{Table}
 use Rattle.table.specs.TableBytes.{tableBytes}
-use Rattle.derivation.specs.Rewriting.{rewrite, sizeOf, rewriteJudged, Written, writtenOf, rewriteOutcome, areaAfter}
+use Rattle.derivation.specs.Rewriting.{rewrite, sizeOf, rewriteJudged, writtenOf, rewriteOutcome, areaAfter}
 use Rattle.tidying.specs.Tidy.{tidy, tidyBytes}
 use Rattle.tidying.specs.Same.{Same}
 use Rattle.tidying.proofs.RotaLaws.{tidy-rota-well, tidy-answer, tidy-twice, tidy-stays, same-tidy, tidy-same-rota}

@@ -1,7 +1,7 @@
 -- Rows that ascend already are the rows in order, each once.
 --     in-order-long, in-order-bytes     how many, and their bytes
 -- Assumes nothing.
-use Prim.Native.Nat.{ℕ, _+_, _*_, _≤_, _<_}
+use Prim.Native.Nat.{ℕ, _*_}
 use mathlib.Core.Path.{_≡_, sym, ap, _∙_}
 use mathlib.Core.Bool.{false}
 use mathlib.Core.List.{List}
@@ -15,7 +15,6 @@ use Rattle.ground.proofs.SearchLaws.{any-no}
 use Rattle.ground.proofs.SequenceLaws.{listOf-length, all-listOf}
 use Rattle.endian.specs.Numbers.{Bytes}
 use Rattle.endian.proofs.PartLaws.{part}
-use Rattle.rota.specs.Rota.{Row}
 use Rattle.rota.specs.Order.{keyOf, least}
 use Rattle.rota.specs.RotaBytes.{rolesOf, hoursOf, rowAt, rowBytes}
 use Rattle.rota.specs.RotaWell.{RowWell}

@@ -14,7 +14,8 @@ pub fn count_kind(s: &[u8], at: usize, n: usize) -> usize
     if !rota::any_falls(s, at, n) {
         return n;
     }
-    tidy_sets::count_many(s, at, n)
+    let mut none = [0u8; 1];
+    tidy_sets::tidy_many(&mut none, 0, s, at, n, false)
 }
 
 // Writes the n rows from `at` on in order, each once, from `to` on. Gives where they end.
@@ -29,5 +30,5 @@ pub fn put_kind(out: &mut [u8], to: usize, s: &[u8], at: usize, n: usize) -> usi
     if n <= 20 {
         return tidy_few::put_few(out, to, s, at, n);
     }
-    tidy_sets::put_many(out, to, s, at, n)
+    to + 3 * tidy_sets::tidy_many(out, to, s, at, n, true)
 }

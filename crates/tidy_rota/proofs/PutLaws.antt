@@ -4,27 +4,26 @@
 --     header-put, all-put              the header, and the whole
 --     outcome-..., area-...            what is answered, and the area
 -- Assumes nothing.
-use Prim.Native.Nat.{ℕ, _+_, _*_, _-_, _≤_, _<_}
+use Prim.Native.Nat.{ℕ, _+_, _*_, _-_, _≤_}
 use mathlib.Core.Path.{_≡_, refl, sym, ap, ap₂, _∙_}
 use mathlib.Core.Bool.{Bool, true, false}
 use mathlib.Core.List.{List, _++_}
 use native.Mathlib.Nat.{zero-add}
 use native.Mathlib.Omega.{arith}
-use borrow.Author.Tests.{lt-ltb, ltb-false, ltb-true, le-ltb, eq-eqb, ne-eqb}
+use borrow.Author.Tests.{ltb-false, ne-eqb}
 use lib.Dec.{eqb, ltb}
 use lib.ListN.{length, take, drop, length-append}
 use lib.Seq.{sets, sets-eq}
-use Rattle.ground.specs.Choice.{pick}
 use Rattle.ground.specs.Judgement.{refuse, _orElse_}
 use Rattle.ground.specs.Outcome.{refused, given}
-use Rattle.ground.proofs.BoolLaws.{pick-true, pick-false}
-use Rattle.ground.proofs.JudgementLaws.{refuse-yes, refuse-none, orElse-ne}
+use Rattle.ground.proofs.BoolLaws.{pick-false}
+use Rattle.ground.proofs.JudgementLaws.{orElse-ne}
 use Rattle.ground.proofs.OutcomeLaws.{outcome-refused, outcome-given}
 use Rattle.endian.specs.Numbers.{Bytes, bytes16}
 use Rattle.endian.proofs.WrittenLaws.{sets-append, sets-twice, sets-comm}
 use Rattle.hours_reader.proofs.RecordLaws.{recordAt-is}
 use Rattle.rota.specs.Rota.{Row}
-use Rattle.rota.specs.RotaBytes.{headerLength, rolesOf, hoursOf, usersOf, permissionsOf, userRowsOf, permissionRowsOf, userRowsAt, permissionRowsAt, rowAt}
+use Rattle.rota.specs.RotaBytes.{headerLength, hoursOf, userRowsOf, permissionRowsOf, userRowsAt, permissionRowsAt}
 use Rattle.rota.specs.RotaRefusals.{rotaJudged}
 use Rattle.rota.specs.RotaWell.{RowWell}
 use Rattle.rota.proofs.HeaderLaws.{header-length}
@@ -32,7 +31,7 @@ use Rattle.rota.proofs.RotaFine.{RotaFine}
 use Rattle.tidying.specs.Tidy.{tidyBytes, tidyJudged, tidyOutcome, areaTidied}
 use Rattle.tidying.specs.Inside.{KindFine, kindRows}
 use Rattle.tidy_rota.specs.Parts.{headBytes, middleBytes, userBytes, permissionBytes}
-use Rattle.tidy_rota.proofs.BytesLaws.{tidy-whole, head-long, middle-long, rows-long, tidy-long, part-long}
+use Rattle.tidy_rota.proofs.BytesLaws.{tidy-whole, head-long, middle-long, rows-long, part-long}
 
 -- numbers below a count that is at most 64
 row-under : {top roles h : ℕ} {w : Row} → top ≤ 64 → RowWell top roles h w → RowWell 64 roles h w

@@ -1,7 +1,6 @@
 -- By whether some row has a number out of range, and whether the format fixes the order.
 use native.Mathlib.Omega.{arith}
 use mathlib.Core.Path.{refl, sym, _∙_}
-use borrow.Author.Needs.{needs}
 use Rattle.ground.proofs.JudgementLaws.{refuse-yes, refuse-none}
 use Rattle.rota.proofs.HeaderLaws.{header-long}
 use Rattle.rota.proofs.RowLaws.{rows-judged, rows-ordered}
