@@ -1,6 +1,6 @@
 -- The bytes of the tidy rota of accepted bytes, part by part.
 --     tidy-whole                         the header, hours records and role bytes as they came, the rows of both kinds
---     head-long, middle-long, rows-long  how long these are
+--     head-long, middle-long             how long these are
 --     tidy-long, tidy-shorter            how long it is; no longer than the bytes that it is made of
 -- Assumes nothing.
 use Prim.Native.Nat.{ℕ, _+_, _*_, _-_, _≤_, _<_}
@@ -8,33 +8,24 @@ use mathlib.Core.Path.{_≡_, sym, ap, ap₂, _∙_}
 use mathlib.Core.List.{List, _++_, append-assoc}
 use native.Mathlib.Omega.{arith}
 use lib.ListN.{length, take, drop, length-append, length-take, length-drop}
-use Rattle.ground.specs.Sequence.{listOf, joined}
-use Rattle.ground.proofs.SequenceLaws.{listOf-length}
+use Rattle.ground.specs.Sequence.{joined}
 use Rattle.endian.specs.Numbers.{Bytes, u8At, bytes8, bytes16}
 use Rattle.endian.proofs.PartLaws.{part, part-join, part-one, spell16}
-use Rattle.endian.proofs.StandsLaws.{joined-length}
 use Rattle.hours.specs.HoursBytes.{hoursBytes, pairsBefore}
 use Rattle.hours_reader.proofs.RecordLaws.{recordAt-is}
 use Rattle.hours_reader.proofs.RecordBytesLaws.{spell-records}
-use Rattle.rota.specs.RotaBytes.{headerLength, cycleOf, hoursOf, usersOf, permissionsOf, rolesOf, userRowsOf, permissionRowsOf, rolesAt, userRowsAt, permissionRowsAt, rowAt, headerBytes, refBytes, rowBytes, rotaBytes, rotaOf}
+use Rattle.rota.specs.RotaBytes.{headerLength, cycleOf, hoursOf, usersOf, permissionsOf, rolesOf, userRowsOf, permissionRowsOf, rolesAt, userRowsAt, permissionRowsAt, headerBytes, refBytes, rotaBytes, rotaOf}
 use Rattle.rota.proofs.HeaderLaws.{header-length}
 use Rattle.rota.proofs.RotaFine.{RotaFine}
 use Rattle.rota.proofs.RotaWellLaws.{hours-count, roles-count}
 use Rattle.rota.proofs.RotaBytesLaws.{spell-refs}
 use Rattle.tidying.specs.Tidy.{tidy, tidyBytes}
-use Rattle.tidying.specs.Inside.{kindRows, kindBytes}
-use Rattle.tidying.proofs.TidyLaws.{tidy-fewer}
-use Rattle.tidying.proofs.WrittenLaws.{row-long}
+use Rattle.tidying.specs.Inside.{kindRows}
+use Rattle.tidying.proofs.WrittenLaws.{rows-long, rows-fewer}
 use Rattle.tidy_rota.specs.Parts.{headBytes, middleBytes, userBytes, permissionBytes}
 
 pub part-long : (s : List ℕ) (a n : ℕ) → a + n ≤ length s → length (take n (drop a s)) ≡ n
 part-long s a n l = omega (arith, length-take n (drop a s), length-drop a s)
-
-pub rows-long : (s : List ℕ) (at n : ℕ) → length (kindBytes s at n) ≡ 3 * length (kindRows s at n)
-rows-long s at n = joined-length rowBytes 3 row-long (kindRows s at n)
-
-pub rows-fewer : (s : List ℕ) (at n : ℕ) → length (kindRows s at n) ≤ n
-rows-fewer s at n = omega (arith, tidy-fewer (listOf n (rowAt s at)), listOf-length n (rowAt s at))
 
 -- the parts after the first, taken together
 three : (x a b c : List ℕ) → x ++ a ++ b ++ c ≡ x ++ (a ++ b ++ c)

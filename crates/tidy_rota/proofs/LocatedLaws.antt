@@ -22,8 +22,9 @@ use Rattle.rota.proofs.LocatedLaws.{fine, counted, hours-at, user-rows-at, perm
 use Rattle.tidying.specs.Tidy.{tidyBytes}
 use Rattle.tidying.proofs.RotaLaws.{tidy-stays}
 use Rattle.tidying.specs.Inside.{KindFine, kindRows, kindBytes}
+use Rattle.tidying.proofs.WrittenLaws.{rows-fewer}
 use Rattle.tidy_rota.specs.Parts.{headBytes}
-use Rattle.tidy_rota.proofs.BytesLaws.{tidy-long, tidy-shorter, rows-fewer}
+use Rattle.tidy_rota.proofs.BytesLaws.{tidy-long, tidy-shorter}
 use Rattle.tidy_rota.proofs.PutLaws.{users-fine, permissions-fine, all-put}
 
 module _ (s : List ℕ) (l : Layout) (w : Located s l) where

@@ -1,8 +1,8 @@
 -- The parts of a tidy rota, stored one by one.
 --     users-fine, permissions-fine     the rows of both kinds
---     fits, ...                        room for each part
 --     header-put, all-put              the header, and the whole
---     outcome-..., area-...            what is answered, and the area
+--     outcome-refuses, outcome-exceeds,
+--     outcome-writes                   what is answered, and the area
 -- Assumes nothing.
 use Prim.Native.Nat.{ℕ, _+_, _*_, _-_, _≤_}
 use mathlib.Core.Path.{_≡_, refl, sym, ap, ap₂, _∙_}
@@ -30,8 +30,9 @@ use Rattle.rota.proofs.HeaderLaws.{header-length}
 use Rattle.rota.proofs.RotaFine.{RotaFine}
 use Rattle.tidying.specs.Tidy.{tidyBytes, tidyJudged, tidyOutcome, areaTidied}
 use Rattle.tidying.specs.Inside.{KindFine, kindRows}
+use Rattle.tidying.proofs.WrittenLaws.{rows-long}
 use Rattle.tidy_rota.specs.Parts.{headBytes, middleBytes, userBytes, permissionBytes}
-use Rattle.tidy_rota.proofs.BytesLaws.{tidy-whole, head-long, middle-long, rows-long, part-long}
+use Rattle.tidy_rota.proofs.BytesLaws.{tidy-whole, head-long, middle-long, part-long}
 
 -- numbers below a count that is at most 64
 row-under : {top roles h : ℕ} {w : Row} → top ≤ 64 → RowWell top roles h w → RowWell 64 roles h w

@@ -30,6 +30,11 @@
 //! let mut page = [6, 8].map(|right| Question::new(5, right, next));
 //! table.page(&mut page)?;
 //! assert_eq!(page.map(|question| question.answer.role()), [Ok(None), Ok(Some(4))]);
+//!
+//! // Two coordinators' rotas are compared once they are tidy: rows in one order, each once.
+//! let mut tidy = [0; 8_192];
+//! let tidy = Rota::read(rota.tidy(&mut tidy)?)?;
+//! assert_eq!(tidy.counts().format, 3);
 //! # Ok::<(), Refusal>(())
 //! ```
 
