@@ -1,4 +1,3 @@
 pub mod SlotLaws
 pub mod PlaceLaws
 pub mod MarkLaws
-pub mod MemberLaws
