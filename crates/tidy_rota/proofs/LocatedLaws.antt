@@ -1,5 +1,6 @@
 -- The parts of a tidy rota in the words of the layout.
---     users-kind, permissions-kind       the rows of both kinds
+--     users-kind, permissions-kind,
+--     users-count, permissions-count     the rows of both kinds, to be written and to be counted
 --     length-is, no-longer               how long it is, and that it is no longer than the rota
 --     within, long                       where the rows begin and how long the bytes are
 --     tidy-already                       a rota of format 3
@@ -34,14 +35,21 @@ module _ (s : List ℕ) (l : Layout) (w : Located s l) where
   pub permissions-kind : KindFine s (l .«permission_rows_at») (l .counts .«permission_rows»)
   permissions-kind = rw (permission-rows-at s l w, counted s l w .permission-rows) (permissions-fine s (fine s l w))
 
+  -- few enough to be counted
+  pub users-count : KindFine s (l .«user_rows_at») (l .counts .«user_rows») × (l .counts .«user_rows» ≤ 512)
+  users-count = (users-kind, omega (arith, counted s l w .user-rows, fine s l w .header .user-rows-most))
+
+  pub permissions-count : KindFine s (l .«permission_rows_at») (l .counts .«permission_rows») × (l .counts .«permission_rows» ≤ 512)
+  permissions-count = (permissions-kind, omega (arith, counted s l w .permission-rows, fine s l w .header .permission-rows-most))
+
   -- no more rows than there were
   pub users-most : length (kindRows s (l .«user_rows_at») (l .counts .«user_rows»)) ≤ 512
   users-most =
-      omega (arith, rows-fewer s (l .«user_rows_at») (l .counts .«user_rows»), counted s l w .user-rows, fine s l w .header .user-rows-most)
+      omega (arith, rows-fewer s (l .«user_rows_at») (l .counts .«user_rows»), users-count .1)
 
   pub permissions-most : length (kindRows s (l .«permission_rows_at») (l .counts .«permission_rows»)) ≤ 512
   permissions-most =
-      omega (arith, rows-fewer s (l .«permission_rows_at») (l .counts .«permission_rows»), counted s l w .permission-rows, fine s l w .header .permission-rows-most)
+      omega (arith, rows-fewer s (l .«permission_rows_at») (l .counts .«permission_rows»), permissions-count .1)
 
   pub long : 12 ≤ length s
   long = omega (arith, fine s l w .header .long, header-length s)

@@ -1,31 +1,21 @@
--- Rows that are in order already are counted as they are.
-use mathlib.Core.Path.{refl, sym, _∙_}
-use mathlib.Core.Bool.{false}
-use Rattle.ground.proofs.BoolLaws.{clash}
+-- Three bytes for each row, of at most 512.
+use native.Mathlib.Omega.{arith}
 use borrow.Author.Needs.{needs}
-use borrow.Author.Tests.{not-true}
-use Rattle.tidy_kinds.proofs.OrderedLaws.{in-order-long}
+use Rattle.tidying.proofs.WrittenLaws.{rows-fewer}
 use Rattle.tidy_kinds.proofs.count_kind.Statement.{statement}
 use Rattle.tidy_kinds.proofs.count_kind.Tie as tie
 
-any-falls-requires : tie.Need-any-falls-requires
-any-falls-requires c κs = search needs
+slice-aggregate-put-kind : tie.Need-slice-aggregate-put-kind
+slice-aggregate-put-kind c = search needs
+
+put-kind-requires : tie.Need-put-kind-requires
+put-kind-requires c κs =
+    let a = c .before .before .args in
+    let p = c .before .before .pre in
+    (p .0, omega (arith, rows-fewer (a .s .now) (a .at) (a .n), p .1))
 
 returns : tie.Need-returns
-returns c =
-    let a = c .before .before .before .args in
-    in-order-long (a .s .now) (a .at) (a .n) (c .before .before .before .pre) (sym (c .before .any-falls .ensures) ∙ not-true _ (c .if1 .taken))
-
-slice-aggregate-tidy-many : tie.Need-slice-aggregate-tidy-many
-slice-aggregate-tidy-many c = search needs
-
-tidy-many-requires : tie.Need-tidy-many-requires
-tidy-many-requires c κs = (c .before .before .before .before .pre, λ e. clash false e refl)
-
-returns-2 : tie.Need-returns-2
-returns-2 c = search needs
+returns c = omega (arith, c .before .put-kind .ensures .1)
 
 pub count-kind-spec : {M : Type 1} → statement M
-count-kind-spec =
-    tie.close
-    (tie.spec any-falls-requires returns slice-aggregate-tidy-many tidy-many-requires returns-2)
+count-kind-spec = tie.close (tie.spec slice-aggregate-put-kind put-kind-requires returns)

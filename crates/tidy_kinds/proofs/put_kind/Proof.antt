@@ -50,14 +50,8 @@ same-length-2 c = search needs
 returns-2 : tie.Need-returns-2
 returns-2 c = search needs
 
-tidy-many-requires : tie.Need-tidy-many-requires
-tidy-many-requires c κs = search needs
-
-mul-result-2 : tie.Need-mul-result-2
-mul-result-2 c = search needs
-
-add-result-2 : tie.Need-add-result-2
-add-result-2 c = search needs
+put-many-requires : tie.Need-put-many-requires
+put-many-requires c κs = search needs
 
 same-length-3 : tie.Need-same-length-3
 same-length-3 c = search needs
@@ -79,8 +73,6 @@ put-kind-spec =
     put-few-requires
     same-length-2
     returns-2
-    tidy-many-requires
-    mul-result-2
-    add-result-2
+    put-many-requires
     same-length-3
     returns-3)

@@ -3,7 +3,7 @@ use mathlib.Core.Path.{ap}
 use native.Mathlib.Omega.{arith}
 use lib.ListN.{length}
 use borrow.Author.Needs.{needs}
-use Rattle.tidy_rota.proofs.LocatedLaws.{users-kind, permissions-kind, users-most, permissions-most, within, length-is, tidy-already}
+use Rattle.tidy_rota.proofs.LocatedLaws.{users-count, permissions-count, users-most, permissions-most, within, length-is, tidy-already}
 use Rattle.tidy_rota.proofs.tidy_length.Statement.{statement}
 use Rattle.tidy_rota.proofs.tidy_length.Tie as tie
 
@@ -14,13 +14,13 @@ cast-count-kind : tie.Need-cast-count-kind
 cast-count-kind c = search needs
 
 count-kind-requires : tie.Need-count-kind-requires
-count-kind-requires c κs = users-kind (c .before .before .before .before .args .s .now) (c .before .before .before .before .args .l) (c .before .before .before .before .pre)
+count-kind-requires c κs = users-count (c .before .before .before .before .args .s .now) (c .before .before .before .before .args .l) (c .before .before .before .before .pre)
 
 cast-count-kind-2 : tie.Need-cast-count-kind-2
 cast-count-kind-2 c = search needs
 
 count-kind-requires-2 : tie.Need-count-kind-requires-2
-count-kind-requires-2 c κs = permissions-kind (c .before .before .before .before .before .before .args .s .now) (c .before .before .before .before .before .before .args .l) (c .before .before .before .before .before .before .pre)
+count-kind-requires-2 c κs = permissions-count (c .before .before .before .before .before .before .args .s .now) (c .before .before .before .before .before .before .args .l) (c .before .before .before .before .before .before .pre)
 
 mul-result : tie.Need-mul-result
 mul-result c = omega (arith, c .before .before .count-kind .ensures, users-most (c .before .before .before .before .before .before .before .args .s .now) (c .before .before .before .before .before .before .before .args .l) (c .before .before .before .before .before .before .before .pre))
