@@ -3,9 +3,9 @@
 --     blank, filled, laid     a loop that lays a pattern: its start, a turn, its end
 --     joins, joined-some      a loop that joins 0 or 1 for each byte
 --     numbered                a block's rows with a given number
---     rows-split              all rows, as whole blocks and the rows left over
+--     blocks-rest, rows-split     all rows, as whole blocks and the rows left over; those out of range
 -- Assumes nothing.
-use Prim.Native.Nat.{ℕ, suc, _+_, _*_, _-_, _≤_, _<_}
+use Prim.Native.Nat.{ℕ, _+_, _*_, _-_, _≤_, _<_}
 use mathlib.Core.Path.{_≡_, refl, sym, ap, ap₂, _∙_}
 use mathlib.Core.Logic.{⊎-elim}
 use mathlib.Core.Bool.{Bool, true, false, not, _&&_, _||_, and-true, or-false}
@@ -36,6 +36,18 @@ joins f j x y e h = ap₂ bitOr e h ∙ both-ones (anyBelow j f) (f j) ∙ ap on
 pub joined-some : (b : Bool) (x : ℕ) → x ≡ one b → not (eqb x 0) ≡ b
 joined-some true x e = rw e refl
 joined-some false x e = rw e refl
+
+-- all rows, as whole blocks of sixteen and the rows left over
+module _ (row : ℕ → Bool) (at n b : ℕ) (l : 16 * b ≤ n) where
+  pub blocks-rest : anyBelow n (λ k. row (at + 3 * k))
+      ≡ (anyBelow b (λ i. anyBelow 16 (λ k. row (at + 48 * i + 3 * k))) || anyBelow (n - 16 * b) (λ k. row (at + 3 * (16 * b) + 3 * k)))
+  blocks-rest =
+      ap (λ (m : ℕ). anyBelow m (λ k. row (at + 3 * k))) (let e : n ≡ 16 * b + (n - 16 * b) = omega arith in e)
+      ∙ any-split (16 * b) (n - 16 * b) (λ k. row (at + 3 * k))
+      ∙ ap₂ _||_
+      (any-blocks 16 b (λ k. row (at + 3 * k))
+      ∙ any-same b _ _ (λ i m. any-same 16 _ _ (λ j q. ap row (let e : at + 3 * (16 * i + j) ≡ at + 48 * i + 3 * j = omega arith in e))))
+      (any-same (n - 16 * b) _ _ (λ j q. ap row (let e : at + 3 * (16 * b + j) ≡ at + 3 * (16 * b) + 3 * j = omega arith in e)))
 
 -- the first i threes are laid, and every third byte is c
 pub record Filled (a b c i : ℕ) (p : List ℕ) : Type 0 where
@@ -149,9 +161,6 @@ module _ (top roles hours : ℕ) (low high : List ℕ) (pl : Pattern top roles h
       → anyBelow n (λ k. rowOut top roles hours s (at + 3 * k))
       ≡ (anyBelow b (λ i. anyBelow 48 (byteOut low high s (at + 48 * i))) || anyBelow (n - 16 * b) (λ k. rowOut top roles hours s (at + 3 * (16 * b) + 3 * k)))
   rows-split at n b l =
-      ap (λ (m : ℕ). anyBelow m (λ k. rowOut top roles hours s (at + 3 * k))) (let e : n ≡ 16 * b + (n - 16 * b) = omega arith in e)
-      ∙ any-split (16 * b) (n - 16 * b) (λ k. rowOut top roles hours s (at + 3 * k))
-      ∙ ap₂ _||_
-      (any-blocks 16 b (λ k. rowOut top roles hours s (at + 3 * k))
-      ∙ any-same b _ _ (λ i m. any-same 16 _ _ (λ j q. ap (rowOut top roles hours s) (let e : at + 3 * (16 * i + j) ≡ at + 48 * i + 3 * j = omega arith in e)) ∙ sym (block (at + 48 * i))))
-      (any-same (n - 16 * b) _ _ (λ j q. ap (rowOut top roles hours s) (let e : at + 3 * (16 * b + j) ≡ at + 3 * (16 * b) + 3 * j = omega arith in e)))
+      blocks-rest (rowOut top roles hours s) at n b l
+      ∙ ap (λ (a : Bool). a || anyBelow (n - 16 * b) (λ k. rowOut top roles hours s (at + 3 * (16 * b) + 3 * k)))
+      (any-same b _ _ (λ i m. sym (block (at + 48 * i))))
