@@ -3,22 +3,27 @@
 --     least-none, least-next      what the first row may have, and the row after row k
 --     under-yes, under-no         whether row k has less
 --     key-by                      a row's place, from its bytes
+--     falls-next                  some row is not above the one before, by what row scans say
 -- Assumes nothing.
-use Prim.Native.Nat.{ℕ, zero, suc, _+_, _*_, _≤_, _<_}
-use mathlib.Core.Path.{_≡_, refl}
+use Prim.Native.Nat.{ℕ, zero, suc, _+_, _*_, _-_, _≤_, _<_}
+use mathlib.Core.Path.{_≡_, refl, sym, ap, ap₂, _∙_}
 use mathlib.Core.List.{List}
-use mathlib.Core.Bool.{true, false}
+use mathlib.Core.Bool.{Bool, true, false}
 use native.Mathlib.Nat.{not-suc-le-zero, le-of-suc-le-suc}
 use native.Mathlib.Numerals.{add-one}
 use native.Mathlib.Omega.{arith}
-use borrow.Author.Tests.{lt-ltb, le-ltb}
-use lib.Dec.{ltb}
+use borrow.Author.Tests.{lt-ltb, le-ltb, ltb-true, le-leb, leb-true}
+use lib.Dec.{leb, ltb}
+use Rattle.ground.specs.Search.{anyBelow}
 use Rattle.ground.specs.Sequence.{listOf}
+use Rattle.ground.proofs.BoolLaws.{or-skip, eq-ext}
+use Rattle.ground.proofs.SearchLaws.{any-same, any-split, any-none-of}
 use Rattle.ground.proofs.SequenceLaws.{listOf-cons}
 use Rattle.endian.specs.Numbers.{u8At}
+use Rattle.rowscan.specs.Rows.{placeAt, nextFalls}
 use Rattle.hours_reader.proofs.RecordBytesLaws.{ref-spelt}
 use Rattle.rota.specs.Rota.{Row}
-use Rattle.rota.specs.RotaBytes.{rowAtByte}
+use Rattle.rota.specs.RotaBytes.{rowAtByte, rowAt}
 use Rattle.rota.specs.Order.{keyOf, least, Ascends}
 
 -- what row k may have, where the first may have n
@@ -75,3 +80,42 @@ pub key-by : (s : List ℕ) (at r n h : ℕ) → r ≡ u8At s (at + 1) → n ≡
     → (r * 256 + n) * 256 + h ≡ keyOf (rowAtByte s at)
 unfolding keyOf
 key-by s at r n h er en eh = rw (er, en, eh, ref-spelt (u8At s (at + 2))) refl
+
+module _ (s : List ℕ) (at : ℕ) where
+  place-is : (k : ℕ) → placeAt s (at + 3 * k) ≡ keyOf (rowAt s at k)
+  unfolding placeAt
+  place-is k = key-by s (at + 3 * k) _ _ _ refl refl refl
+
+  -- the row after row k
+  next-is : (k : ℕ) → nextFalls s (at + 3 * k) ≡ ltb (keyOf (rowAt s at (1 + k))) (least (rowAt s at) (1 + k))
+  unfolding nextFalls least
+  next-is k =
+      let e : at + 3 * k + 3 ≡ at + 3 * (1 + k) = omega arith in
+      let q : 1 + k ≡ suc k = omega arith in
+      ap₂ leb (ap (placeAt s) e ∙ place-is (1 + k)) (place-is k)
+      ∙ ltb-same (keyOf (rowAt s at (1 + k))) (keyOf (rowAt s at k))
+      ∙ ap (λ (i : ℕ). ltb (keyOf (rowAt s at (1 + k))) (least (rowAt s at) i)) (sym q)
+    where
+      ltb-same : (a b : ℕ) → leb a b ≡ ltb a (b + 1)
+      ltb-same a b =
+          eq-ext (leb a b) (ltb a (b + 1))
+          (λ h. lt-ltb a (b + 1) (omega (arith, leb-true a b h)))
+          (λ h. le-leb a b (omega (arith, ltb-true a (b + 1) h)))
+
+  pub falls-next : (n : ℕ) → anyBelow (n - 1) (λ k. nextFalls s (at + 3 * k)) ≡ anyBelow n (λ k. ltb (keyOf (rowAt s at k)) (least (rowAt s at) k))
+  unfolding anyBelow
+  falls-next zero = refl
+  falls-next (suc n) =
+      let f : ℕ → Bool = λ k. ltb (keyOf (rowAt s at k)) (least (rowAt s at) k) in
+      let e : suc n - 1 ≡ n = omega arith in
+      let q : suc n ≡ 1 + n = omega arith in
+      ap (λ (m : ℕ). anyBelow m (λ k. nextFalls s (at + 3 * k))) e
+      ∙ any-same n (λ k. nextFalls s (at + 3 * k)) (λ j. f (1 + j)) (λ k l. next-is k)
+      ∙ sym (ap (λ (m : ℕ). anyBelow m f) q ∙ any-split 1 n f ∙ or-skip (anyBelow 1 f) (anyBelow n (λ j. f (1 + j))) none-first)
+    where
+      first-none : (i : ℕ) → i < 1 → least (rowAt s at) i ≤ keyOf (rowAt s at i)
+      first-none zero l = omega (arith, least-none (rowAt s at))
+      first-none (suc i) l = absurd (omega arith)
+
+      none-first : anyBelow 1 (λ k. ltb (keyOf (rowAt s at k)) (least (rowAt s at) k)) ≡ false
+      none-first = any-none-of 1 _ (λ i l. under-no (rowAt s at) i (keyOf (rowAt s at i)) (least (rowAt s at) i) refl refl (first-none i l))

@@ -138,17 +138,7 @@ pub fn any_falls(s: &[u8], at: usize, n: usize) -> bool
     requires { ⌜ at + 3 * n ≤ length (now s) ⌝ }
     ensures { λ r. ⌜ r ≡ anyBelow n (λ k. ltb (keyOf (rowAt (now (s .entry)) at k)) (least (rowAt (now (s .entry)) at) k)) ⌝ }
 {
-    let mut low = 0;
-    let mut k = 0;
-    while k < n {
-        let key = key_at(s, at + 3 * k);
-        if key < low {
-            return true;
-        }
-        low = key + 1;
-        k += 1;
-    }
-    false
+    rowscan::any_next_falls(s, at, n)
 }
 
 // The first refusal of the n rows from `at` on of a rota of format 3, row by row, else 0.

@@ -1,6 +1,4 @@
 use borrow.Author.Tests.{lt-leb, le-leb}
-use mathlib.Core.Path.{refl}
-use mathlib.Core.Bool.{and-false}
 use Rattle.rowscan.proofs.between.Statement.{statement}
 use Rattle.rowscan.proofs.between.Tie as tie
 
