@@ -1,8 +1,9 @@
 -- The reader's outcome, by the stage at which reading stops.
 -- Assumes nothing.
-use Prim.Native.Nat.{ℕ}
+use Prim.Native.Nat.{ℕ, _+_, _*_}
 use mathlib.Core.Path.{_≡_, refl, sym, _∙_, ap}
 use mathlib.Core.List.{List}
+use native.Mathlib.Omega.{arith}
 use borrow.Author.Tests.{eq-eqb, ne-eqb}
 use lib.ListN.{length}
 use Rattle.ground.specs.Judgement.{refuse, _orElse_, inTurn}
@@ -13,7 +14,7 @@ use Rattle.hours.specs.HoursRefusals.{recordJudged}
 use Rattle.rota.specs.RotaBytes.{headerLength, cycleOf, hoursOf, usersOf, permissionsOf, rolesOf, userRowsOf, permissionRowsOf, userRowsAt, permissionRowsAt, endsAt}
 use Rattle.rota.specs.RotaRefusals.{headerJudged, roleJudged, rowJudged, rotaJudged}
 use Rattle.rota.specs.Answers.{countsOf, readOutcome}
-use Rattle.rota.specs.Inside.{restJudged, layoutOf, layoutOutcome}
+use Rattle.rota.specs.Inside.{restJudged, layoutOf, layoutOutcome, Measured}
 use Rattle.rota.specs.declared.Layout.{Layout}
 
 -- rows judged with other names for the same counts
@@ -84,3 +85,25 @@ module _ (s : List ℕ) where
   read-given l e =
       let r = located l e in
       ap (λ (x : Layout). given (x .counts)) (r .1) ∙ outcome-given (rotaJudged s) (countsOf s) (r .0)
+
+-- what follows the hours records, by the counts that the reader has
+module _ (s : List ℕ) (h users permissions roles a b at : ℕ) (m : Measured s h users permissions roles a b at)
+    (long : length s ≡ at + roles + 3 * a + 3 * b) where
+  ends-so : length s ≡ endsAt s
+  ends-so = omega (arith, long, m .ends, m .roles-are, m .user-rows, m .permission-rows)
+
+  module _ (r : inTurn (roleJudged s) roles ≡ 0) where
+    roles-so : inTurn (roleJudged s) (rolesOf s) ≡ 0
+    roles-so = sym (ap (inTurn (roleJudged s)) (m .roles-are)) ∙ r
+
+    users-as : inTurn (rowJudged 11 users s (at + roles)) a ≡ inTurn (rowJudged 11 (usersOf s) s (userRowsAt s)) (userRowsOf s)
+    users-as = rows-as s 11 (m .users-are) (omega (arith, m .ends, m .roles-are)) (m .user-rows)
+
+    pub by-users : (e : ℕ) → e ≡ inTurn (rowJudged 11 users s (at + roles)) a → (e ≡ 0 → ⊥) → e ≡ restJudged s
+    by-users e j n = rest-users s ends-so roles-so e (j ∙ users-as) n
+
+    pub by-permissions : (u e : ℕ) → u ≡ inTurn (rowJudged 11 users s (at + roles)) a → u ≡ 0
+        → e ≡ inTurn (rowJudged 12 permissions s (at + roles + 3 * a)) b → e ≡ restJudged s
+    by-permissions u e j z k =
+        rest-permissions s ends-so roles-so e (sym (j ∙ users-as) ∙ z)
+        (k ∙ rows-as s 12 (m .permissions-are) (omega (arith, m .ends, m .roles-are, m .user-rows)) (m .permission-rows))

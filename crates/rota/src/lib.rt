@@ -163,20 +163,35 @@ fn judge_each(refusal: u8, s: &[u8], h: usize, roles: usize, top: usize, at: usi
     0
 }
 
-// The first refusal of the n rows from `at` on, else 0. Where the format does not fix their order, and where no row has a number out of range, they
-// share one refusal, so it is enough to know whether some row has it.
-fn judge_rows(refusal: u8, s: &[u8], h: usize, roles: usize, top: usize, at: usize, n: usize) -> u8
-    requires { ⌜ RowsKnown refusal (now s) h roles top at n ⌝ }
+// The first refusal of the n rows from `at` on of a rota of format 3, else 0. Where no row has a number out of range, they share 52.
+fn judge_ordered(
+    refusal: u8,
+    s: &[u8],
+    h: usize,
+    roles: usize,
+    top: usize,
+    at: usize,
+    n: usize,
+) -> u8
+    requires { ⌜ RowsKnown refusal (now s) h roles top at n × (formatOf (now s) ≡ 3) ⌝ }
     ensures { λ r. ⌜ r ≡ inTurn (rowJudged refusal top (now (s .entry)) at) n ⌝ }
 {
-    let out = rowscan::rows_out(s, at, n, top as u8, roles as u8, h as u8);
-    if endian::read16(s, 0) != 3 {
-        return if out { refusal } else { 0 };
-    }
-    if out {
+    if rowscan::rows_out(s, at, n, top as u8, roles as u8, h as u8) {
         return judge_each(refusal, s, h, roles, top, at, n);
     }
     if any_falls(s, at, n) { 52 } else { 0 }
+}
+
+// The same where the format does not fix their order: they share one refusal, so it is enough to know whether some row has a number out of range.
+fn judge_rows(refusal: u8, s: &[u8], h: usize, roles: usize, top: usize, at: usize, n: usize) -> u8
+    requires { ⌜ RowsKnown refusal (now s) h roles top at n × (formatOf (now s) ≡ 3 → ⊥) ⌝ }
+    ensures { λ r. ⌜ r ≡ inTurn (rowJudged refusal top (now (s .entry)) at) n ⌝ }
+{
+    if rowscan::rows_out(s, at, n, top as u8, roles as u8, h as u8) {
+        refusal
+    } else {
+        0
+    }
 }
 
 // The first refusal of what follows the hours records, which end at `at`, else 0. The counts are those of the header.
@@ -201,6 +216,13 @@ fn judge_rest(
     let role = judge_roles(s, h, at, roles);
     if role != 0 {
         return role;
+    }
+    if endian::read16(s, 0) == 3 {
+        let ordered = judge_ordered(11, s, h, roles, users, first, user_rows);
+        if ordered != 0 {
+            return ordered;
+        }
+        return judge_ordered(12, s, h, roles, permissions, second, permission_rows);
     }
     let user = judge_rows(11, s, h, roles, users, first, user_rows);
     if user != 0 {
