@@ -90,7 +90,6 @@ pub rows-known : {s : List ℕ} {h users permissions roles a b at : ℕ} → Mea
 rows-known w f n top from m some within few =
     record {
       number = some;
-      header = f .long;
       within = within;
       hours = w .hours;
       roles-are = w .roles-are;

@@ -2,7 +2,7 @@
 --     ascends-all, all-ascend     rows ascend exactly when each one's place is at least what it may have
 --     least-none, least-next      what the first row may have, and the row after row k
 --     under-yes, under-no         whether row k has less
---     key-by                      a row's place, from its bytes
+--     place-key                   a row's place, from its bytes
 --     falls-next                  some row is not above the one before, by what row scans say
 -- Assumes nothing.
 use Prim.Native.Nat.{ℕ, zero, suc, _+_, _*_, _-_, _≤_, _<_}
@@ -76,23 +76,18 @@ module _ (rows : ℕ → Row) (k key low : ℕ) (ek : key ≡ keyOf (rows k)) (e
   pub under-no : low ≤ key → ltb (keyOf (rows k)) (least rows k) ≡ false
   under-no l = le-ltb (keyOf (rows k)) (least rows k) (omega (arith, ek, el))
 
-pub key-by : (s : List ℕ) (at r n h : ℕ) → r ≡ u8At s (at + 1) → n ≡ u8At s at → h ≡ u8At s (at + 2)
-    → (r * 256 + n) * 256 + h ≡ keyOf (rowAtByte s at)
-unfolding keyOf
-key-by s at r n h er en eh = rw (er, en, eh, ref-spelt (u8At s (at + 2))) refl
+pub place-key : (s : List ℕ) (at : ℕ) → placeAt s at ≡ keyOf (rowAtByte s at)
+unfolding placeAt keyOf
+place-key s at = rw (ref-spelt (u8At s (at + 2))) refl
 
 module _ (s : List ℕ) (at : ℕ) where
-  place-is : (k : ℕ) → placeAt s (at + 3 * k) ≡ keyOf (rowAt s at k)
-  unfolding placeAt
-  place-is k = key-by s (at + 3 * k) _ _ _ refl refl refl
-
   -- the row after row k
   next-is : (k : ℕ) → nextFalls s (at + 3 * k) ≡ ltb (keyOf (rowAt s at (1 + k))) (least (rowAt s at) (1 + k))
   unfolding nextFalls least
   next-is k =
       let e : at + 3 * k + 3 ≡ at + 3 * (1 + k) = omega arith in
       let q : 1 + k ≡ suc k = omega arith in
-      ap₂ leb (ap (placeAt s) e ∙ place-is (1 + k)) (place-is k)
+      ap₂ leb (ap (placeAt s) e ∙ place-key s (at + 3 * (1 + k))) (place-key s (at + 3 * k))
       ∙ ltb-same (keyOf (rowAt s at (1 + k))) (keyOf (rowAt s at k))
       ∙ ap (λ (i : ℕ). ltb (keyOf (rowAt s at (1 + k))) (least (rowAt s at) i)) (sym q)
     where

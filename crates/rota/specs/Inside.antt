@@ -55,7 +55,6 @@ pub record Measured (s : List ℕ) (h users permissions roles a b at : ℕ) : Ty
 -- n rows from `at` on are to be judged, with a refusal of their own, by the header's counts
 pub record RowsKnown (refusal : ℕ) (s : List ℕ) (h roles top at n : ℕ) : Type 0 where
   pub number : 0 < refusal
-  pub header : headerLength s ≤ length s
   pub within : at + 3 * n ≤ length s
   pub hours : h ≡ hoursOf s
   pub roles-are : roles ≡ rolesOf s

@@ -127,10 +127,7 @@ pub fn key_at(s: &[u8], at: usize) -> u32
     requires { ⌜ at + 3 ≤ length (now s) ⌝ }
     ensures { λ r. ⌜ (r ≡ keyOf (rowAtByte (now (s .entry)) at)) × (r < 16777216) ⌝ }
 {
-    let role = endian::read8(s, at + 1);
-    let number = endian::read8(s, at);
-    let hours = endian::read8(s, at + 2);
-    ((role * 256 + number) * 256 + hours) as u32
+    rowscan::place_at(s, at) as u32
 }
 
 // Whether one of the n rows from `at` on is not above the one before.

@@ -197,9 +197,9 @@ fn blocks_fall(s: &[u8], at: usize, n: usize, counts: &[u8; 48]) -> bool
 }
 
 // The place in the order of the row at `at`.
-fn place_at(s: &[u8], at: usize) -> usize
+pub fn place_at(s: &[u8], at: usize) -> usize
     requires { ⌜ at + 3 ≤ length (now s) ⌝ }
-    ensures { λ r. ⌜ r ≡ placeAt (now (s .entry)) at ⌝ }
+    ensures { λ r. ⌜ (r ≡ placeAt (now (s .entry)) at) × (r < 16777216) ⌝ }
 {
     let role = endian::read8(s, at + 1);
     let number = endian::read8(s, at);

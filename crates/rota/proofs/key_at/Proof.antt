@@ -1,59 +1,20 @@
-use native.Mathlib.Omega.{arith}
+use mathlib.Core.Path.{_∙_}
 use borrow.Author.Needs.{needs}
-use Rattle.rota.proofs.OrderLaws.{key-by}
+use Rattle.rota.proofs.OrderLaws.{place-key}
 use Rattle.rota.proofs.key_at.Statement.{statement}
 use Rattle.rota.proofs.key_at.Tie as tie
 
-add-read8 : tie.Need-add-read8
-add-read8 c = search needs
-
-read8-requires : tie.Need-read8-requires
-read8-requires c κs = search needs
-
-read8-requires-2 : tie.Need-read8-requires-2
-read8-requires-2 c κs = search needs
-
-add-read8-2 : tie.Need-add-read8-2
-add-read8-2 c = search needs
-
-read8-requires-3 : tie.Need-read8-requires-3
-read8-requires-3 c κs = search needs
-
-mul-result : tie.Need-mul-result
-mul-result c = search needs
-
-add-result : tie.Need-add-result
-add-result c = search needs
-
-mul-result-2 : tie.Need-mul-result-2
-mul-result-2 c = search needs
-
-add-result-2 : tie.Need-add-result-2
-add-result-2 c = search needs
+place-at-requires : tie.Need-place-at-requires
+place-at-requires c κs = search needs
 
 cast-result : tie.Need-cast-result
 cast-result c = search needs
 
 returns : tie.Need-returns
 returns c =
-    let a = c .before .before .before .before .args in
-    let r = c .before .before .read8 .ensures in
-    let n = c .before .read82 .ensures in
-    let h = c .read83 .ensures in
-    (key-by (a .s .now) (a .at) _ _ _ (r .0) (n .0) (h .0), omega (arith, r .1, n .1, h .1))
+    let a = c .before .before .args in
+    let p = c .place-at .ensures in
+    (p .0 ∙ place-key (a .s .now) (a .at), p .1)
 
 pub key-at-spec : {M : Type 1} → statement M
-key-at-spec =
-    tie.close
-    (tie.spec
-    add-read8
-    read8-requires
-    read8-requires-2
-    add-read8-2
-    read8-requires-3
-    mul-result
-    add-result
-    mul-result-2
-    add-result-2
-    cast-result
-    returns)
+key-at-spec = tie.close (tie.spec place-at-requires cast-result returns)

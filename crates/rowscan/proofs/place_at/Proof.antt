@@ -1,3 +1,4 @@
+use native.Mathlib.Omega.{arith}
 use mathlib.Core.Path.{refl}
 use Rattle.rowscan.specs.Rows.{placeAt}
 use borrow.Author.Needs.{needs}
@@ -33,7 +34,11 @@ add-result-2 c = search needs
 
 returns : tie.Need-returns
 unfolding placeAt
-returns c = rw (c .before .before .read8 .ensures .0, c .before .read82 .ensures .0, c .read83 .ensures .0) refl
+returns c =
+    let r = c .before .before .read8 .ensures in
+    let n = c .before .read82 .ensures in
+    let h = c .read83 .ensures in
+    (rw (r .0, n .0, h .0) refl, omega (arith, r .1, n .1, h .1))
 
 pub place-at-spec : {M : Type 1} → statement M
 place-at-spec =

@@ -24,7 +24,7 @@ place-at-requires c κs = search needs
 loop-holds : tie.Need-loop-holds Inv-loop μ-loop
 loop-holds c =
     let a = c .before .before .args in
-    (search needs, c .place-at .ensures ∙ ap (placeAt (a .s .now)) (let e : a .at ≡ a .at + 3 * 0 = omega arith in e), any-none _)
+    (search needs, c .place-at .ensures .0 ∙ ap (placeAt (a .s .now)) (let e : a .at ≡ a .at + 3 * 0 = omega arith in e), any-none _)
 
 mul-place-at : tie.Need-mul-place-at Inv-loop μ-loop
 mul-place-at c = search needs
@@ -41,7 +41,7 @@ place-at-requires-2 c κs = search needs
 returns : tie.Need-returns Inv-loop μ-loop
 returns c =
     let p = c .before .before in
-    sym (any-stop _ _ _ (p .loop-test .taken) (falls-yes _ _ _ _ (p .before .loop .inv .1) (c .before .place-at2 .ensures) (omega arith)))
+    sym (any-stop _ _ _ (p .loop-test .taken) (falls-yes _ _ _ _ (p .before .loop .inv .1) (c .before .place-at2 .ensures .0) (omega arith)))
 
 add-k : tie.Need-add-k Inv-loop μ-loop
 add-k c = search needs
@@ -54,8 +54,8 @@ loop-again c =
     let l = c .before .before .before .loop in
     let a = c .before .before .before .before .before .before .args in (
       search needs,
-      c .before .place-at2 .ensures ∙ ap (placeAt (a .s .now)) (let e : a .at + 3 * l .k + 3 ≡ a .at + 3 * (l .k + 1) = omega arith in e),
-      any-more _ _ (l .inv .2) (falls-no _ _ _ _ (l .inv .1) (c .before .place-at2 .ensures) (omega arith)),
+      c .before .place-at2 .ensures .0 ∙ ap (placeAt (a .s .now)) (let e : a .at + 3 * l .k + 3 ≡ a .at + 3 * (l .k + 1) = omega arith in e),
+      any-more _ _ (l .inv .2) (falls-no _ _ _ _ (l .inv .1) (c .before .place-at2 .ensures .0) (omega arith)),
     )
 
 returns-2 : tie.Need-returns-2 Inv-loop μ-loop
