@@ -1,8 +1,8 @@
 /*
  * Softlode: proved access hours. The C interface of the proved library.
  *
- * Link target/staticlib/libsoftlode.a, which `rt staticlib softlode` proves and writes (x86-64, System V calls). Of other libraries it needs
- * memcpy and memset alone.
+ * For x86-64 Linux. `make install` puts this header, libsoftlode.a, libsoftlode.so and softlode.pc in their places, and `pkg-config --cflags
+ * --libs softlode` names them to a compiler. Of other libraries it needs memcpy and memset alone.
  *
  * What holds of every function here:
  *
@@ -22,22 +22,28 @@
  * - Calls on different records (and on different output areas and lists of questions) may run at the same time, on any threads. There is no
  *   global state. Calls on one record come one after the other, asks too: an ask leaves the record's values, but may store them again; so
  *   may a page the other fields of its questions.
- * - Stack: softlode_rewrite takes less than 1 MiB and softlode_rota_tidy less than 32 KiB, whatever the rota; every other call less than
- *   4 KiB.
+ * - Stack: softlode_rewrite and softlode_rewrite_size take less than 1 MiB and softlode_rota_tidy less than 32 KiB, whatever the rota; every
+ *   other call less than 4 KiB.
  * - Every number that is passed has at least 32 bits, so that 256 is refused and never wraps to 0.
  *
- * Minutes count from 0, which is 00:00 on Monday 1 January 2001, to 210379679, in 31 December 2400. Volunteers, rights and roles are
- * numbered from 0. Bit i of a set stands for number i.
+ * Minutes count from 0, which is 00:00 on Monday 1 January 2001, to 210379679, in 31 December 2400. They are those of one clock, the archive's,
+ * whose days all have 24 hours: Gregorian dates without summer time and without leap seconds. No call reads a clock: the host says which minute
+ * it is, by softlode_minute from the year, month, day, hour and minute that its clock shows. It should be a clock that never jumps, such as
+ * standard time all the year: with one that keeps summer time an hour of the spring is not there, and an hour of the autumn is there twice, and
+ * going back through it is refusal 41.
+ *
+ * Volunteers, rights and roles are numbered from 0. Bit i of a set stands for number i.
  *
  * A rota is of format 1, where rows come in any order and may repeat, or of format 3, a tidy rota, where the rows of each kind ascend by role,
  * then by volunteer or right, then by the byte of their hours (always last), and none repeats. Whatever takes the one takes the other.
  *
- * Refusals, by operation, in the order in which they are looked for; softlode_meaning says what each number means:
+ * Refusals, by operation, in the order in which they are looked for; enum softlode_refusal names them, and softlode_text says what each means:
  *
  *   reading a rota     1, 2, 3, 4; then each hours record in turn 5 (its first 10 bytes), 6, 7, 5 (its pairs), 8; then 9, 10; then each
  *                      volunteer row in turn 11, 52; then each right row in turn 12, 52
  *   tidying            those of a rota, then 20
  *   rewriting          those of a rota, then 20
+ *   a table's size     those of a rota
  *   reading a table    21, 22, 23, 24, 25; then each derived role in turn 26; then each row in turn 27, 28
  *   a question         those of the bytes, then 33, 34, 35
  *   a page             51, then those of the bytes; then in the place of each question 33, 34, 35
@@ -55,6 +61,57 @@
 #ifdef __cplusplus
 extern "C" {
 #endif
+
+/*
+ * The version of this header, and the same as one number: 1002003 is 1.2.3. The major version is raised whenever something that was there changes,
+ * such as a struct that grows; it is in the .so's name, libsoftlode.so.1. The minor one is raised for what is added beside it.
+ */
+#define SOFTLODE_VERSION_MAJOR 1
+#define SOFTLODE_VERSION_MINOR 0
+#define SOFTLODE_VERSION_PATCH 0
+#define SOFTLODE_VERSION (SOFTLODE_VERSION_MAJOR * 1000000u + SOFTLODE_VERSION_MINOR * 1000u + SOFTLODE_VERSION_PATCH)
+
+/* Limits: no longer rota is accepted; an area that is enough for every table; the last minute; the most questions on a page. */
+#define SOFTLODE_LARGEST_ROTA 4460
+#define SOFTLODE_ENOUGH_AREA 35212336
+#define SOFTLODE_LAST_MINUTE 210379679
+#define SOFTLODE_MOST_QUESTIONS 256
+
+/* The refusals. What each means is in softlode_meaning, below. */
+enum softlode_refusal {
+    SOFTLODE_ROTA_SHORT = 1,
+    SOFTLODE_ROTA_FORMAT = 2,
+    SOFTLODE_ROTA_CYCLE = 3,
+    SOFTLODE_ROTA_COUNTS = 4,
+    SOFTLODE_HOURS_CUT = 5,
+    SOFTLODE_HOURS_SPAN = 6,
+    SOFTLODE_HOURS_PAIRS = 7,
+    SOFTLODE_HOURS_PAIR = 8,
+    SOFTLODE_ROTA_LENGTH = 9,
+    SOFTLODE_ROLE_HOURS = 10,
+    SOFTLODE_VOLUNTEER_ROW = 11,
+    SOFTLODE_RIGHT_ROW = 12,
+    SOFTLODE_AREA_TOO_SMALL = 20,
+    SOFTLODE_TABLE_SHORT = 21,
+    SOFTLODE_TABLE_FORMAT = 22,
+    SOFTLODE_TABLE_CYCLE = 23,
+    SOFTLODE_TABLE_COUNTS = 24,
+    SOFTLODE_TABLE_LENGTH = 25,
+    SOFTLODE_TABLE_ENTRY = 26,
+    SOFTLODE_TABLE_ROW = 27,
+    SOFTLODE_TABLE_ORDER = 28,
+    SOFTLODE_NO_SUCH_MINUTE = 33,
+    SOFTLODE_NO_SUCH_VOLUNTEER = 34,
+    SOFTLODE_NO_SUCH_RIGHT = 35,
+    SOFTLODE_RECORD_UNFIT = 40,
+    SOFTLODE_BEFORE_NOW = 41,
+    SOFTLODE_ALREADY_OPEN = 42,
+    SOFTLODE_NO_RIGHT_NOW = 43,
+    SOFTLODE_NOT_OPEN = 44,
+    SOFTLODE_NO_SUCH_DATE = 50,
+    SOFTLODE_PAGE_TOO_LONG = 51,
+    SOFTLODE_ROTA_ORDER = 52
+};
 
 /* The counts of an accepted rota's header, and its format. */
 typedef struct softlode_rota {
@@ -131,7 +188,7 @@ typedef struct softlode_question {
 } softlode_question;
 
 /*
- * The service record. The host keeps one, starts it as { 0, 0 }, and lends it to each call: no call needs another. Its two fields may be
+ * The service record. The host keeps one, starts it as SOFTLODE_FRESH, and lends it to each call: no call needs another. Its fields may be
  * read, stored and restored at any time between calls (the bytes between them mean nothing); a record that does not fit the lent bytes is
  * refusal 40.
  */
@@ -139,6 +196,13 @@ typedef struct softlode_service {
     uint32_t now;         /* a minute */
     uint64_t open;        /* the volunteers whose sessions are open */
 } softlode_service;
+
+/* A fresh service record: softlode_service service = SOFTLODE_FRESH; with all fields 0, also those that a later version may add. */
+#ifdef __cplusplus
+#define SOFTLODE_FRESH {}
+#else
+#define SOFTLODE_FRESH {0}
+#endif
 
 /* A minute of the calendar. */
 typedef struct softlode_date_time {
@@ -156,6 +220,17 @@ typedef struct softlode_minute_number {
     uint32_t refusal;
     uint32_t minute;
 } softlode_minute_number;
+
+/* The version of the library, as SOFTLODE_VERSION has that of the header. */
+uint32_t softlode_version(void);
+
+/*
+ * Whether the library that runs does what this header says: the major version is the same, and it is no older. A host asks once, at its start,
+ * since a .so may be another one than it was built with. It is not proved.
+ */
+static inline int softlode_fits(void) {
+    return softlode_version() / 1000000u == SOFTLODE_VERSION_MAJOR && softlode_version() >= SOFTLODE_VERSION;
+}
 
 /* Reads a rota: its counts and its format, or 1 to 12, 52. */
 softlode_rota softlode_rota_read(const uint8_t *rota, size_t length);
@@ -201,11 +276,18 @@ softlode_board softlode_table_board(const uint8_t *table, size_t length, uint32_
 
 /*
  * Rewrites a rota to its table, at the start of the output area. Bytes of the area past the table's length stay as they are. The rota's refusals,
- * or 20 where 16 + 17 * derived + 16 * rows exceeds the size of the area; then the whole area stays as it is. 35212336 bytes are enough for every
- * rota (32 roles, 65 eras and 513 cells at the most), and 65536 for most. Neighbouring rows of one derived role and one era that touch are
- * written as one, and `rows` counts them so; a table in which they are not joined means the same, and is read as well.
+ * or 20 where 16 + 17 * derived + 16 * rows exceeds the size of the area; then the whole area stays as it is. SOFTLODE_ENOUGH_AREA bytes are
+ * enough for every rota (32 roles, 65 eras and 513 cells at the most), 65536 for most, and softlode_rewrite_size tells how many. Neighbouring rows
+ * of one derived role and one era that touch are written as one, and `rows` counts them so; a table in which they are not joined means the same,
+ * and is read as well.
  */
 softlode_written softlode_rewrite(const uint8_t *rota, size_t length, uint8_t *area, size_t size);
+
+/*
+ * How large a rota's table is, without writing it: its derived roles, rows and length, or the rota's refusals, never 20. Rewriting the rota succeeds
+ * exactly with an area that is at least that long, and gives the same numbers. It takes as long as a rewriting but for the writing.
+ */
+softlode_written softlode_rewrite_size(const uint8_t *rota, size_t length);
 
 /*
  * Moves now to the minute, and closes the session of everyone who holds no right at some minute after the old now, up to and with the new one,
@@ -234,45 +316,51 @@ softlode_told softlode_table_ask(softlode_service *service, const uint8_t *table
 softlode_date_time softlode_date(uint32_t minute);
 softlode_minute_number softlode_minute(uint32_t year, uint32_t month, uint32_t day, uint32_t hour, uint32_t minute);
 
-/* What a refusal's number means, in a line, and "" for 0. It is not part of the library. */
+/* What a refusal's number means, in a line; "" for 0, and for a number that is no refusal that it is not known. It is not proved. */
 static inline const char *softlode_meaning(uint32_t refusal) {
     switch (refusal) {
     case 0: return "";
-    case 1: return "the rota is shorter than its header";
-    case 2: return "this is not a rota of format 1 or 3";
-    case 3: return "the rota's cycle is not 1 to 40320 minutes";
-    case 4: return "a count of the rota is over its limit";
-    case 5: return "an hours record is cut off";
-    case 6: return "an hours record does not begin before it ends, or ends past 2400";
-    case 7: return "an hours record has no pair, or there are more than 256 in all";
-    case 8: return "a pair is empty, goes past the cycle, or does not start later than the end of the pair before it";
-    case 9: return "the rota is longer or shorter than its counts say";
-    case 10: return "a role names hours that are not there";
-    case 11: return "a volunteer row names a volunteer, role or hours that are not there";
-    case 12: return "a right row names a right, role or hours that are not there";
-    case 20: return "the area is too small for the table or the tidy rota";
-    case 21: return "the table is shorter than its header";
-    case 22: return "this is not a table of format 2";
-    case 23: return "the table's cycle is not 1 to 40320 minutes";
-    case 24: return "a count of the table is over its limit";
-    case 25: return "the table is longer or shorter than its counts say";
-    case 26: return "a derived role has a source out of range or order, or a set that is empty or out of range";
-    case 27: return "a row of the table has a derived role, begin, end, offset or length out of range";
-    case 28: return "a row of the table does not follow the row before it";
-    case 33: return "the minute is past 2400";
-    case 34: return "there is no such volunteer";
-    case 35: return "there is no such right";
-    case 40: return "the service record does not fit: its minute is past 2400, or someone open is no such volunteer";
-    case 41: return "the minute is before now";
-    case 42: return "the volunteer's session is open already";
-    case 43: return "the volunteer holds no right now";
-    case 44: return "the volunteer's session is not open";
-    case 50: return "the date or time does not exist or is not in 2001 to 2400";
-    case 51: return "a page has more than 256 questions";
-    case 52: return "a row of a format 3 rota is not above the row before it";
+    case SOFTLODE_ROTA_SHORT: return "the rota is shorter than its header";
+    case SOFTLODE_ROTA_FORMAT: return "this is not a rota of format 1 or 3";
+    case SOFTLODE_ROTA_CYCLE: return "the rota's cycle is not 1 to 40320 minutes";
+    case SOFTLODE_ROTA_COUNTS: return "a count of the rota is over its limit";
+    case SOFTLODE_HOURS_CUT: return "an hours record is cut off";
+    case SOFTLODE_HOURS_SPAN: return "an hours record does not begin before it ends, or ends past 2400";
+    case SOFTLODE_HOURS_PAIRS: return "an hours record has no pair, or there are more than 256 in all";
+    case SOFTLODE_HOURS_PAIR: return "a pair is empty, goes past the cycle, or does not start later than the end of the pair before it";
+    case SOFTLODE_ROTA_LENGTH: return "the rota is longer or shorter than its counts say";
+    case SOFTLODE_ROLE_HOURS: return "a role names hours that are not there";
+    case SOFTLODE_VOLUNTEER_ROW: return "a volunteer row names a volunteer, role or hours that are not there";
+    case SOFTLODE_RIGHT_ROW: return "a right row names a right, role or hours that are not there";
+    case SOFTLODE_AREA_TOO_SMALL: return "the area is too small for the table or the tidy rota";
+    case SOFTLODE_TABLE_SHORT: return "the table is shorter than its header";
+    case SOFTLODE_TABLE_FORMAT: return "this is not a table of format 2";
+    case SOFTLODE_TABLE_CYCLE: return "the table's cycle is not 1 to 40320 minutes";
+    case SOFTLODE_TABLE_COUNTS: return "a count of the table is over its limit";
+    case SOFTLODE_TABLE_LENGTH: return "the table is longer or shorter than its counts say";
+    case SOFTLODE_TABLE_ENTRY: return "a derived role has a source out of range or order, or a set that is empty or out of range";
+    case SOFTLODE_TABLE_ROW: return "a row of the table has a derived role, begin, end, offset or length out of range";
+    case SOFTLODE_TABLE_ORDER: return "a row of the table does not follow the row before it";
+    case SOFTLODE_NO_SUCH_MINUTE: return "the minute is past 2400";
+    case SOFTLODE_NO_SUCH_VOLUNTEER: return "there is no such volunteer";
+    case SOFTLODE_NO_SUCH_RIGHT: return "there is no such right";
+    case SOFTLODE_RECORD_UNFIT: return "the service record does not fit: its minute is past 2400, or someone open is no such volunteer";
+    case SOFTLODE_BEFORE_NOW: return "the minute is before now";
+    case SOFTLODE_ALREADY_OPEN: return "the volunteer's session is open already";
+    case SOFTLODE_NO_RIGHT_NOW: return "the volunteer holds no right now";
+    case SOFTLODE_NOT_OPEN: return "the volunteer's session is not open";
+    case SOFTLODE_NO_SUCH_DATE: return "the date or time does not exist or is not in 2001 to 2400";
+    case SOFTLODE_PAGE_TOO_LONG: return "a page has more than 256 questions";
+    case SOFTLODE_ROTA_ORDER: return "a row of a format 3 rota is not above the row before it";
     default: return "a number that this version does not know";
     }
 }
+
+/*
+ * The same, for languages that have the library alone. It is the one function that is not part of the proved library: `make` adds it to the archive
+ * and to the .so.
+ */
+const char *softlode_text(uint32_t refusal);
 
 #ifdef __cplusplus
 }
