@@ -5,7 +5,8 @@
  *
  *     host ROTA
  *
- * Status: 0; 1 for a rota that is refused; 2, with a line on standard error, where a file cannot be read or the arguments are wrong.
+ * Status: 0; 1 for a rota that is refused; 2, with a line on standard error, where a file cannot be read, the arguments are wrong, there is no
+ * memory or the library is of another version.
  */
 #include <inttypes.h>
 #include <stdio.h>
@@ -28,8 +29,8 @@ _Static_assert(sizeof(softlode_service) == 16 && offsetof(softlode_service, open
 _Static_assert(sizeof(softlode_date_time) == 28 && offsetof(softlode_date_time, minute) == 24, "softlode_date_time");
 _Static_assert(sizeof(softlode_minute_number) == 8 && offsetof(softlode_minute_number, minute) == 4, "softlode_minute_number");
 
-/* No rota has more than 4460 bytes, so what a file has past this many makes no difference: it is too long. */
-enum { FILE_LIMIT = 8192, AREA_SIZE = 65536, PAGE_LIMIT = 256, HOUR = 60, DAY = 24 * HOUR };
+/* One byte more than any rota has: what a file has past it makes no difference, it is too long. */
+enum { FILE_LIMIT = SOFTLODE_LARGEST_ROTA + 1, HOUR = 60, DAY = 24 * HOUR };
 
 /* The two services, and what they have been doing. */
 struct host {
@@ -54,6 +55,15 @@ static size_t load(const char *name, uint8_t *bytes) {
     if (ferror(file)) fail(2, "cannot read ", name);
     fclose(file);
     return length;
+}
+
+/* The table of a rota, in memory that has its size, and its counts; or the refusal. */
+static softlode_written table_of(const uint8_t *rota, size_t length, uint8_t **table) {
+    softlode_written size = softlode_rewrite_size(rota, length);
+    if (size.refusal != 0) return size;
+    *table = malloc(size.length);
+    if (*table == NULL) fail(2, "no memory", "");
+    return softlode_rewrite(rota, length, *table, size.length);
 }
 
 /* What both services told, which must be the same and leave the same. */
@@ -107,12 +117,14 @@ static void show_refusal(const char *what, uint32_t refusal) {
 
 /* The rota with its rows in order, as two coordinators compare theirs. Its table must be the same, and tidied again it must be the same. */
 static void show_tidy(const struct host *host) {
-    static uint8_t tidy[FILE_LIMIT], again[FILE_LIMIT], area[AREA_SIZE];
+    static uint8_t tidy[FILE_LIMIT], again[FILE_LIMIT];
+    uint8_t *table = NULL;
     softlode_tidied tidied = softlode_rota_tidy(host->rota, host->rota_length, tidy, sizeof tidy);
     softlode_rota counts = softlode_rota_read(tidy, tidied.length);
-    softlode_written written = softlode_rewrite(tidy, tidied.length, area, sizeof area);
-    if (counts.format != 3 || written.length != host->table_length || memcmp(area, host->table, host->table_length) != 0)
+    softlode_written written = table_of(tidy, tidied.length, &table);
+    if (counts.format != 3 || written.length != host->table_length || memcmp(table, host->table, host->table_length) != 0)
         fail(1, "the tidy rota has another table", "");
+    free(table);
     if (softlode_rota_tidy(tidy, tidied.length, again, sizeof again).length != tidied.length || memcmp(again, tidy, tidied.length) != 0)
         fail(1, "the tidy rota is tidied to another", "");
     printf("tidy rota: %" PRIu32 " + %" PRIu32 " rows, %" PRIu64 " bytes, with the same table\n", counts.volunteer_rows, counts.right_rows,
@@ -195,7 +207,7 @@ static void show_board(const struct host *host, softlode_rota counts, uint32_t m
 /* The page of a volunteer at a minute, as a tree viewer shows it: a button for each right, grey where it may not be used. One page to the rota and
  * one to the table answer all, and single questions must say the same. */
 static void show_page(const struct host *host, softlode_rota counts, uint32_t volunteer, uint32_t minute) {
-    softlode_question page[PAGE_LIMIT], mirror[PAGE_LIMIT];
+    softlode_question page[SOFTLODE_MOST_QUESTIONS], mirror[SOFTLODE_MOST_QUESTIONS];
     for (uint32_t right = 0; right < counts.rights; right++)
         page[right] = mirror[right] = (softlode_question){.volunteer = volunteer, .right = right, .minute = minute};
     if (softlode_rota_page(page, counts.rights, host->rota, host->rota_length) != 0 ||
@@ -223,7 +235,7 @@ static void show_when(uint32_t minute, const char *after) {
 /* When each volunteer can next use each right, from a minute on, as a journey is planned: next Sunday's discard, or never again. */
 static void show_next(const struct host *host, softlode_rota counts, uint32_t minute) {
     for (uint32_t volunteer = 0; volunteer < counts.volunteers; volunteer++) {
-        softlode_next last = {0, 0, 0};
+        softlode_next last = {0};
         show_date(minute);
         printf(" volunteer %" PRIu32 " can", volunteer);
         for (uint32_t right = 0; right < counts.rights; right++) {
@@ -244,7 +256,7 @@ static void show_next(const struct host *host, softlode_rota counts, uint32_t mi
 /* Damaged bytes and wrong numbers: each is one refusal, and leaves the record. */
 static void show_refusals(struct host *host, uint8_t *rota) {
     uint8_t small[8];
-    static softlode_question long_page[PAGE_LIMIT + 1];
+    static softlode_question long_page[SOFTLODE_MOST_QUESTIONS + 1];
     show_refusal("the rota without its last byte: ", softlode_rota_read(rota, host->rota_length - 1).refusal);
     rota[0] ^= 0xff;
     show_refusal("the rota with another first byte: ", softlode_rota_read(rota, host->rota_length).refusal);
@@ -257,24 +269,27 @@ static void show_refusals(struct host *host, uint8_t *rota) {
     show_refusal("an area of 8 bytes to tidy in: ", softlode_rota_tidy(rota, host->rota_length, small, sizeof small).refusal);
     show_refusal("the table without its last byte: ", softlode_table_read(host->table, host->table_length - 1).refusal);
     show_refusal("the next use by volunteer 256: ", softlode_table_next(host->table, host->table_length, 256, 0, 0).refusal);
-    show_refusal("the board of minute 210379680: ", softlode_table_board(host->table, host->table_length, 210379680).refusal);
-    show_refusal("a page of 257 questions: ", softlode_table_page(long_page, PAGE_LIMIT + 1, host->table, host->table_length));
+    show_refusal("the board of minute 210379680: ", softlode_table_board(host->table, host->table_length, SOFTLODE_LAST_MINUTE + 1).refusal);
+    show_refusal("a page of 257 questions: ", softlode_table_page(long_page, SOFTLODE_MOST_QUESTIONS + 1, host->table, host->table_length));
     show_refusal("an open of volunteer 256: ", open_session(host, 256).refusal);
     show_refusal("an advance to minute 0: ", advance(host, 0).refusal);
     show_refusal("29 February 2023: ", softlode_minute(2023, 2, 29, 0, 0).refusal);
 }
 
 int main(int argc, char **argv) {
-    static uint8_t rota[FILE_LIMIT], area[AREA_SIZE];
+    static uint8_t rota[FILE_LIMIT];
+    uint8_t *table = NULL;
+    if (!softlode_fits()) fail(2, "the library is of another version", "");
     if (argc != 2) fail(2, "usage: host ROTA", "");
-    struct host host = {.rota = rota, .rota_length = load(argv[1], rota), .table = area};
+    struct host host = {.rota = rota, .rota_length = load(argv[1], rota), .service = SOFTLODE_FRESH, .mirror = SOFTLODE_FRESH};
 
     softlode_rota counts = softlode_rota_read(rota, host.rota_length);
-    softlode_written written = softlode_rewrite(rota, host.rota_length, area, sizeof area);
+    softlode_written written = table_of(rota, host.rota_length, &table);
     if (written.refusal != 0) {
         show_refusal("", written.refusal);
         return 1;
     }
+    host.table = table;
     host.table_length = written.length;
     printf("rota: format %" PRIu32 ", cycle %" PRIu32 ", %" PRIu32 " hours, %" PRIu32 " volunteers, %" PRIu32 " rights, %" PRIu32
            " roles, %" PRIu32 " + %" PRIu32 " rows\n",
@@ -294,5 +309,6 @@ int main(int argc, char **argv) {
     show_date(host.service.now);
     printf(" open %016" PRIx64 "\nthe rota and the table agree\n", host.service.open);
     if (fflush(stdout) != 0 || ferror(stdout)) fail(2, "cannot write", "");
+    free(table);
     return 0;
 }
