@@ -35,6 +35,14 @@
 //! assert_eq!(tidy.counts().format, 3);
 //! # Ok::<(), Refusal>(())
 //! ```
+//!
+//! A host that keeps a rota or a table has it as a [`RotaBuf`] or a [`TableBuf`], which own their bytes.
+//!
+//! The library, libsoftlode.a, is linked from the folder that `SOFTLODE_LIB_DIR` names when the crate
+//! is built; without it from where `make install` has put it, known by the crate's own place or by
+//! pkg-config; and for a crate in the repository from where that builds it. With
+//! `SOFTLODE_LINK=dynamic` it is libsoftlode.so, which may be another when the host starts than it was
+//! when the host was built: [`fits`] tells.
 
 #![deny(missing_docs, unsafe_code, unsafe_op_in_unsafe_fn)]
 // For the tests alone: a later compiler's warnings are no reason to stop a host.

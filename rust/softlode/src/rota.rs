@@ -4,10 +4,30 @@ use std::fmt;
 
 use crate::{Lent, Question, Refusal, TableBuf, ffi};
 
-/// No rota of more bytes is accepted.
+/// No rota of more bytes is accepted, so a host need not read more of a file than one byte past them.
+///
+/// ```
+/// use softlode::{LARGEST_ROTA, RotaBuf};
+/// use std::{fs::File, io::Read};
+///
+/// let mut bytes = Vec::new();
+/// File::open("../../data/week.rota")?.take(LARGEST_ROTA as u64 + 1).read_to_end(&mut bytes)?;
+/// assert!(RotaBuf::read(bytes).is_ok());
+/// # Ok::<(), std::io::Error>(())
+/// ```
 pub const LARGEST_ROTA: usize = 4_460;
 
 /// An area of so many bytes is enough for every table.
+///
+/// ```
+/// use softlode::{ENOUGH_AREA, Refusal, Rota};
+///
+/// // One area for all rotas that may come: a rewriting into it is never refused with 20.
+/// let mut area = vec![0; ENOUGH_AREA];
+/// let rota = Rota::read(include_bytes!("../../../data/week.rota"))?;
+/// assert_eq!(rota.rewrite(&mut area)?.rows, 239);
+/// # Ok::<(), Refusal>(())
+/// ```
 pub const ENOUGH_AREA: usize = 35_212_336;
 
 /// The counts of a rota's header, and its format.
@@ -71,7 +91,19 @@ pub type Rota<'a> = RotaOf<&'a [u8]>;
 pub type RotaBuf = RotaOf<Vec<u8>>;
 
 /// A rota that was accepted, in bytes that are lent ([`Rota`]), owned ([`RotaBuf`]), or kept in
-/// another way, such as an `Arc<[u8]>`.
+/// another way, such as an `Arc<[u8]>`, which threads share.
+///
+/// ```
+/// use softlode::{Refusal, RotaOf, Service};
+/// use std::sync::Arc;
+///
+/// let bytes: Arc<[u8]> = Arc::from(*include_bytes!("../../../data/small.rota"));
+/// let rota = RotaOf::read(bytes)?;
+/// assert_eq!(rota.may(0, 0, 3)?, Some(0));
+/// // What takes a rota that is lent, such as a service, takes this one so:
+/// Service::fresh().open(&rota.as_rota(), 0)?;
+/// # Ok::<(), Refusal>(())
+/// ```
 #[derive(Clone, Copy, PartialEq, Eq)]
 pub struct RotaOf<B> {
     bytes: B,
@@ -295,7 +327,7 @@ pub struct Written<'a> {
 impl fmt::Debug for Written<'_> {
     fn fmt(&self, f: &mut fmt::Formatter<'_>) -> fmt::Result {
         let Written { derived, rows, bytes } = self;
-        let size = TableSize { derived: *derived, rows: *rows, length: bytes.len() };
-        f.debug_tuple("Written").field(&size).finish()
+        let mut text = f.debug_struct("Written");
+        text.field("derived", derived).field("rows", rows).field("length", &bytes.len()).finish()
     }
 }

@@ -69,7 +69,7 @@ pub type Table<'a> = TableOf<&'a [u8]>;
 pub type TableBuf = TableOf<Vec<u8>>;
 
 /// A table that was accepted, in bytes that are lent ([`Table`]), owned ([`TableBuf`]), or kept in
-/// another way, such as an `Arc<[u8]>`.
+/// another way, such as an `Arc<[u8]>`; see [`RotaOf`](crate::RotaOf).
 #[derive(Clone, Copy, PartialEq, Eq)]
 pub struct TableOf<B> {
     bytes: B,
@@ -98,6 +98,18 @@ impl<B: AsRef<[u8]>> TableOf<B> {
     }
 
     /// The same table, lent.
+    ///
+    /// ```
+    /// use softlode::{Refusal, Rota, Table};
+    ///
+    /// fn rows_of(table: Table) -> u32 {
+    ///     table.counts().rows
+    /// }
+    ///
+    /// let table = Rota::read(include_bytes!("../../../data/small.rota"))?.to_table()?;
+    /// assert_eq!(rows_of(table.as_table()), 8);
+    /// # Ok::<(), Refusal>(())
+    /// ```
     pub fn as_table(&self) -> Table<'_> {
         TableOf { bytes: self.bytes.as_ref(), counts: self.counts }
     }

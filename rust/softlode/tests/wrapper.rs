@@ -52,7 +52,7 @@ fn debug_texts() {
     assert_eq!(format!("{:?}", table.as_table()), table_text);
     let mut area = [0; 195];
     let written = format!("{:?}", rota.rewrite(&mut area).unwrap());
-    assert_eq!(written, "Written(TableSize { derived: 3, rows: 8, length: 195 })");
+    assert_eq!(written, "Written { derived: 3, rows: 8, length: 195 }");
     let lent = [Lent::from(&rota), Lent::from(&table)];
     assert_eq!(format!("{lent:?}"), "[Rota(54 bytes), Table(195 bytes)]");
     let boards = [3, 12, 37].map(|minute| format!("{:?}", table.board(minute).unwrap()));
