@@ -9,11 +9,11 @@ use std::thread;
 use cases::generate::{self, LIMITS, Sets};
 use cases::random::Random;
 use cases::worst;
-use comparison::ffi::rewriting::{rewrite, rewrite_size};
+use comparison::ffi::rewriting::{rewrite, size};
 use comparison::ffi::tidying::tidy;
 use softlode::{Lent, Question, Rota, Service, Table, date, minute};
 
-/// How far the stack is painted for a rewriting and a table's size, and for every other call. A
+/// How far the stack is painted for a rewriting and a size, and for every other call. A
 /// tidying may take half of the latter.
 const FAR: usize = 5 << 18;
 const NEAR: usize = 1 << 16;
@@ -93,7 +93,7 @@ fn rotas() -> Vec<Vec<u8>> {
     rotas
 }
 
-/// The refusal that a call gives, and the stack that it took.
+/// The refusal of a call, and the stack that it took.
 fn refusal_and_stack(size: usize, call: impl FnOnce() -> u32) -> (u32, usize) {
     let mut refusal = 0;
     let stack = stack_of(size, || refusal = call());
@@ -144,19 +144,20 @@ fn of_a_rewriting() {
     });
 }
 
+/// The size of a table, told without an area.
 #[test]
 fn of_a_size() {
     on_thread(|| {
-        let (mut sizes, mut refused) = (Vec::new(), Vec::new());
+        let (mut told, mut refused) = (Vec::new(), Vec::new());
         for rota in rotas() {
-            match refusal_and_stack(FAR, || rewrite_size(&rota).refusal) {
-                (0, stack) => sizes.push(stack),
+            match refusal_and_stack(FAR, || size(&rota).refusal) {
+                (0, stack) => told.push(stack),
                 (_, stack) => refused.push(stack),
             }
         }
-        assert!(most("a table's size", &sizes) < 1 << 20);
-        assert!(most("a table's size that refuses the rota", &refused) < 1 << 20);
-        assert!(sizes.len() > 200, "{} sizes", sizes.len());
+        assert!(most("a size", &told) < 1 << 20);
+        assert!(most("a size that refuses the rota", &refused) < 1 << 20);
+        assert!(told.len() > 200, "{} sizes", told.len());
     });
 }
 

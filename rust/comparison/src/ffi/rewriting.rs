@@ -1,4 +1,4 @@
-//! Rewriting a rota into an area.
+//! Rewriting a rota into an area, and how large one it takes.
 
 #[repr(C)]
 #[derive(Clone, Copy, Debug, Default, PartialEq, Eq)]
@@ -18,8 +18,7 @@ pub fn rewrite(rota: &[u8], area: &mut [u8]) -> Rewritten {
     unsafe { softlode_rewrite(rota.as_ptr(), rota.len(), area.as_mut_ptr(), area.len()) }
 }
 
-/// How large the table is, by a call that does not write it.
-pub fn rewrite_size(rota: &[u8]) -> Rewritten {
+pub fn size(rota: &[u8]) -> Rewritten {
     unsafe { softlode_rewrite_size(rota.as_ptr(), rota.len()) }
 }
 
