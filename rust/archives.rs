@@ -1,5 +1,6 @@
-//! What the build scripts share: linking archives of the proved code. An archive is needed only
-//! where a program is linked, so everything compiles without it.
+//! What the build scripts of `comparison` and `bench` share: linking archives of the proved code. An
+//! archive is needed only where a program is linked, so everything compiles without it. The wrapper
+//! is built outside the repository too, and has a build script of its own.
 
 use std::path::Path;
 

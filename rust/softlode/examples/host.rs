@@ -9,15 +9,18 @@ use std::fmt::{Display, Write};
 use std::io::Write as _;
 use std::process::ExitCode;
 
-use softlode::{Lent, Question, Refusal, Rota, Service, Table, date, minute};
+use softlode::{
+    LAST_MINUTE, Lent, MOST_QUESTIONS, Question, Refusal, Rota, RotaBuf, Service, TableBuf, date,
+    fits, minute, version,
+};
 
 const HOUR: u32 = 60;
 const DAY: u32 = 24 * HOUR;
 
 /// The two services, what they have been doing, and the text of it.
-struct Host<'a> {
-    rota: Rota<'a>,
-    table: Table<'a>,
+struct Host {
+    rota: RotaBuf,
+    table: TableBuf,
     /// With the rota.
     service: Service,
     /// With the table.
@@ -47,7 +50,7 @@ fn agreed<T: PartialEq>(a: T, b: T) -> T {
     a
 }
 
-impl Host<'_> {
+impl Host {
     /// A call of both services, which must tell and leave the same.
     fn call<T: PartialEq>(
         &mut self,
@@ -62,12 +65,11 @@ impl Host<'_> {
     /// The rota with its rows in order, as two coordinators compare theirs. Its table must be the
     /// same, and tidied again it must be the same.
     fn show_tidy(&mut self) -> Result<(), Refusal> {
-        let (mut tidy, mut again, mut area) = ([0; 8_192], [0; 8_192], [0; 65_536]);
-        let tidy = Rota::read(self.rota.tidy(&mut tidy)?)?;
+        let tidy = self.rota.to_tidy()?;
         let counts = tidy.counts();
         assert_eq!(counts.format, 3);
-        assert_eq!(tidy.rewrite(&mut area)?.bytes, self.table.bytes(), "another table");
-        assert_eq!(tidy.tidy(&mut again)?, tidy.bytes(), "tidied to another");
+        assert_eq!(tidy.to_table()?, self.table, "another table");
+        assert_eq!(tidy.to_tidy()?, tidy, "tidied to another");
         say!(
             self.text,
             "tidy rota: {} + {} rows, {} bytes, with the same table",
@@ -227,20 +229,21 @@ impl Host<'_> {
 
     /// Damaged bytes and wrong numbers: each is one refusal, and leaves the record.
     fn show_refusals(&mut self) {
-        let (rota, table) = (self.rota.bytes(), self.table.bytes());
-        let mut other = rota.to_vec();
+        let mut other = self.rota.bytes().to_vec();
+        let short = &other[..other.len() - 1];
+        self.show_refusal("the rota without its last byte", Rota::read(short));
         other[0] ^= 0xff;
-        self.show_refusal("the rota without its last byte", Rota::read(&rota[..rota.len() - 1]));
         self.show_refusal("the rota with another first byte", Rota::read(&other));
         other[0] = 3;
         self.show_refusal("the rota as a tidy one", Rota::read(&other));
         self.show_refusal("an area of 8 bytes", self.rota.rewrite(&mut [0; 8]));
         self.show_refusal("an area of 8 bytes to tidy in", self.rota.tidy(&mut [0; 8]));
-        let short = &table[..table.len() - 1];
-        self.show_refusal("the table without its last byte", Table::read(short));
+        let mut short = self.table.bytes().to_vec();
+        short.pop();
+        self.show_refusal("the table without its last byte", TableBuf::read(short));
         self.show_refusal("the next use by volunteer 256", self.table.next_use(256, 0, 0));
-        self.show_refusal("the board of minute 210379680", self.table.board(210_379_680));
-        let mut long_page = [Question::default(); 257];
+        self.show_refusal("the board of minute 210379680", self.table.board(LAST_MINUTE + 1));
+        let mut long_page = [Question::default(); MOST_QUESTIONS + 1];
         self.show_refusal("a page of 257 questions", self.table.page(&mut long_page));
         let told = self.call(|service, lent| service.open(lent, 256));
         self.show_refusal("an open of volunteer 256", told);
@@ -251,14 +254,12 @@ impl Host<'_> {
 }
 
 /// All that the host prints for a rota.
-fn week(file: &[u8]) -> Result<String, Refusal> {
-    let rota = Rota::read(file)?;
-    let mut area = [0; 65_536];
-    let written = rota.rewrite(&mut area)?;
+fn week(file: Vec<u8>) -> Result<String, Refusal> {
+    let rota = RotaBuf::read(file)?;
     let counts = rota.counts();
     let mut host = Host {
+        table: rota.to_table()?,
         rota,
-        table: Table::read(written.bytes)?,
         service: Service::fresh(),
         mirror: Service::fresh(),
         advances: 0,
@@ -282,8 +283,8 @@ fn week(file: &[u8]) -> Result<String, Refusal> {
         counts.volunteer_rows,
         counts.right_rows
     );
-    let (derived, rows, length) = (written.derived, written.rows, written.bytes.len());
-    say!(host.text, "table: {derived} derived roles, {rows} rows, {length} bytes");
+    let (table, length) = (host.table.counts(), host.table.bytes().len());
+    say!(host.text, "table: {} derived roles, {} rows, {length} bytes", table.derived, table.rows);
     host.show_tidy()?;
 
     let monday = minute(2024, 2, 26, 0, 0)?;
@@ -316,6 +317,9 @@ fn fail(what: impl Display) -> ExitCode {
 }
 
 fn main() -> ExitCode {
+    if !fits() {
+        return fail(format_args!("the library is of version {}, which does not fit", version()));
+    }
     let arguments: Vec<_> = std::env::args_os().skip(1).collect();
     let [name] = arguments.as_slice() else {
         return fail("usage: host ROTA");
@@ -323,7 +327,7 @@ fn main() -> ExitCode {
     let Ok(file) = std::fs::read(name) else {
         return fail(format_args!("cannot read {}", name.display()));
     };
-    let (text, status) = match week(&file) {
+    let (text, status) = match week(file) {
         Ok(text) => (text, ExitCode::SUCCESS),
         Err(refusal) => (format!("{refusal}\n"), ExitCode::FAILURE),
     };

@@ -7,7 +7,7 @@
 
 #![allow(unsafe_code)]
 
-use crate::{DateTime, Lent, Question, Refusal, RotaCounts, Service, TableCounts};
+use crate::{DateTime, Lent, Question, Refusal, RotaCounts, Service, TableCounts, TableSize};
 
 /// What a function tells: the number of a refusal, or 0 and values. All fields of the values are
 /// `u32`, so that they lie as in the flat struct of the header.
@@ -77,6 +77,13 @@ pub struct WrittenTold {
     pub length: u64,
 }
 
+impl WrittenTold {
+    pub fn size(self) -> Result<TableSize, Refusal> {
+        let WrittenTold { refusal, derived, rows, length } = self;
+        Refusal::judge(refusal).map(|()| TableSize { derived, rows, length: length as usize })
+    }
+}
+
 /// Its sets have 64 bits, so it lies flat.
 #[repr(C)]
 pub struct BoardTold {
@@ -92,6 +99,7 @@ type Ask = unsafe extern "C" fn(*mut Service, *const u8, usize, u32, u32) -> Tol
 
 #[rustfmt::skip]
 unsafe extern "C" {
+    safe fn softlode_version() -> u32;
     fn softlode_rota_read(rota: *const u8, length: usize) -> Told<RotaCounts>;
     fn softlode_table_read(table: *const u8, length: usize) -> Told<TableCounts>;
     fn softlode_rota_tidy(rota: *const u8, length: usize, area: *mut u8, size: usize) -> TidiedTold;
@@ -102,6 +110,7 @@ unsafe extern "C" {
     fn softlode_table_next(table: *const u8, length: usize, volunteer: u32, right: u32, minute: u32) -> Told<NextUse>;
     fn softlode_table_board(table: *const u8, length: usize, minute: u32) -> BoardTold;
     fn softlode_rewrite(rota: *const u8, length: usize, area: *mut u8, size: usize) -> WrittenTold;
+    fn softlode_rewrite_size(rota: *const u8, length: usize) -> WrittenTold;
     fn softlode_rota_advance(service: *mut Service, rota: *const u8, length: usize, minute: u32) -> Told<Answer>;
     fn softlode_table_advance(service: *mut Service, table: *const u8, length: usize, minute: u32) -> Told<Answer>;
     fn softlode_rota_open(service: *mut Service, rota: *const u8, length: usize, volunteer: u32) -> Told<Answer>;
@@ -112,6 +121,10 @@ unsafe extern "C" {
     fn softlode_table_ask(service: *mut Service, table: *const u8, length: usize, volunteer: u32, right: u32) -> Told<Answer>;
     safe fn softlode_date(minute: u32) -> Told<DateTime>;
     safe fn softlode_minute(year: u32, month: u32, day: u32, hour: u32, minute: u32) -> Told<u32>;
+}
+
+pub fn version() -> u32 {
+    softlode_version()
 }
 
 pub fn rota_read(rota: &[u8]) -> Told<RotaCounts> {
@@ -132,6 +145,11 @@ pub fn tidy(rota: &[u8], area: &mut [u8]) -> TidiedTold {
 pub fn rewrite(rota: &[u8], area: &mut [u8]) -> WrittenTold {
     // SAFETY: the bytes and the area are lent for the time of the call, the area exclusively.
     unsafe { softlode_rewrite(rota.as_ptr(), rota.len(), area.as_mut_ptr(), area.len()) }
+}
+
+pub fn rewrite_size(rota: &[u8]) -> WrittenTold {
+    // SAFETY: the bytes are lent for the time of the call.
+    unsafe { softlode_rewrite_size(rota.as_ptr(), rota.len()) }
 }
 
 /// The one of two functions that is for what is lent, and the bytes.
@@ -238,6 +256,7 @@ mod tests {
             assert_eq!(softlode_rota_tidy(small.as_ptr(), small.len(), null_mut(), 0).refusal, 20);
             assert_eq!(softlode_rewrite(null(), 0, null_mut(), 0).refusal, 1);
             assert_eq!(softlode_rewrite(small.as_ptr(), small.len(), null_mut(), 0).refusal, 20);
+            assert_eq!(softlode_rewrite_size(null(), 0).refusal, 1);
             for question in [softlode_rota_question as Single, softlode_table_question] {
                 assert!(matches!(told(question(null(), 0, 0, 0, 0)), Err(1 | 21)));
             }

@@ -5,11 +5,10 @@
 //! records may run at the same time. Every call judges the bytes that are lent to it anew.
 //!
 //! ```
-//! use softlode::{Question, Refusal, Rota, Service, Table, date, minute};
+//! use softlode::{Question, Refusal, Rota, Service, date, minute};
 //!
 //! let rota = Rota::read(include_bytes!("../../../data/week.rota"))?;
-//! let mut area = [0; 65_536];
-//! let table = Table::read(rota.rewrite(&mut area)?.bytes)?;
+//! let table = rota.to_table()?;
 //!
 //! let mut service = Service::fresh();
 //! service.advance(&table, minute(2024, 2, 26, 9, 0)?)?;
@@ -32,11 +31,18 @@
 //! assert_eq!(page.map(|question| question.answer.role()), [Ok(None), Ok(Some(4))]);
 //!
 //! // Two coordinators' rotas are compared once they are tidy: rows in one order, each once.
-//! let mut tidy = [0; 8_192];
-//! let tidy = Rota::read(rota.tidy(&mut tidy)?)?;
+//! let tidy = rota.to_tidy()?;
 //! assert_eq!(tidy.counts().format, 3);
 //! # Ok::<(), Refusal>(())
 //! ```
+//!
+//! A host that keeps a rota or a table has it as a [`RotaBuf`] or a [`TableBuf`], which own their bytes.
+//!
+//! The library, libsoftlode.a, is linked from the folder that `SOFTLODE_LIB_DIR` names when the crate
+//! is built; without it from where `make install` has put it, known by the crate's own place or by
+//! pkg-config; and for a crate in the repository from where that builds it. With
+//! `SOFTLODE_LINK=dynamic` it is libsoftlode.so, which may be another when the host starts than it was
+//! when the host was built: [`fits`] tells.
 
 #![deny(missing_docs, unsafe_code, unsafe_op_in_unsafe_fn)]
 // For the tests alone: a later compiler's warnings are no reason to stop a host.
@@ -47,10 +53,16 @@ mod ffi;
 mod lent;
 mod page;
 mod refusal;
+mod rota;
 mod service;
+mod table;
+mod version;
 
 pub use calendar::{DateTime, LAST_MINUTE, date, minute};
-pub use lent::{Board, Lent, Rota, RotaCounts, Table, TableCounts, Written};
-pub use page::{Place, Question};
+pub use lent::Lent;
+pub use page::{MOST_QUESTIONS, Place, Question};
 pub use refusal::Refusal;
+pub use rota::{ENOUGH_AREA, LARGEST_ROTA, Rota, RotaBuf, RotaCounts, RotaOf, TableSize, Written};
 pub use service::Service;
+pub use table::{Board, Table, TableBuf, TableCounts, TableOf};
+pub use version::{VERSION, Version, fits, version};

@@ -2,6 +2,9 @@
 
 use crate::{Lent, Refusal, ffi};
 
+/// The most questions on a page.
+pub const MOST_QUESTIONS: usize = 256;
+
 /// The answer to a question on a page. One that was never asked says no.
 #[repr(C)]
 #[derive(Clone, Copy, Debug, Default, PartialEq, Eq)]
@@ -46,7 +49,7 @@ impl Lent<'_> {
     /// the refusals of the bytes; then no place is written.
     ///
     /// ```
-    /// use softlode::{Lent, Question, Refusal};
+    /// use softlode::{Lent, MOST_QUESTIONS, Question, Refusal};
     ///
     /// let rota = Lent::Rota(include_bytes!("../../../data/small.rota"));
     /// // May volunteers 0 and 1, and 2, who is not there, use right 0 at minute 12?
@@ -55,7 +58,7 @@ impl Lent<'_> {
     /// let answers = page.map(|question| question.answer.role());
     /// assert_eq!(answers, [Ok(Some(0)), Ok(Some(0)), Err(Refusal::NO_SUCH_VOLUNTEER)]);
     ///
-    /// let mut long = [page[0]; 257];
+    /// let mut long = [page[0]; MOST_QUESTIONS + 1];
     /// assert_eq!(rota.page(&mut long), Err(Refusal::PAGE_TOO_LONG));
     /// # Ok::<(), Refusal>(())
     /// ```

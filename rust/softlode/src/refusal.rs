@@ -12,8 +12,10 @@ use std::fmt;
 /// assert_eq!(refusal, Refusal::ROTA_SHORT);
 /// assert_eq!(refusal.number(), 1);
 /// assert_eq!(refusal.to_string(), "refused 1: the rota is shorter than its header");
+/// // As an `unwrap` has it:
+/// assert_eq!(format!("{refusal:?}"), "Refusal(1: the rota is shorter than its header)");
 /// ```
-#[derive(Clone, Copy, Debug, PartialEq, Eq, PartialOrd, Ord, Hash)]
+#[derive(Clone, Copy, PartialEq, Eq, PartialOrd, Ord, Hash)]
 pub struct Refusal(u32);
 
 impl Refusal {
@@ -31,6 +33,12 @@ impl Refusal {
 impl fmt::Display for Refusal {
     fn fmt(&self, f: &mut fmt::Formatter<'_>) -> fmt::Result {
         write!(f, "refused {}: {}", self.0, self.meaning())
+    }
+}
+
+impl fmt::Debug for Refusal {
+    fn fmt(&self, f: &mut fmt::Formatter<'_>) -> fmt::Result {
+        write!(f, "Refusal({}: {})", self.0, self.meaning())
     }
 }
 

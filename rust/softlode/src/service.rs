@@ -75,10 +75,8 @@ impl Service {
         ffi::close(self, lent.into(), volunteer).done()
     }
 
-    /// May the volunteer, whose session is open, use the right now? As [`Rota::may`], or 34; 35;
+    /// May the volunteer, whose session is open, use the right now? As [`Lent::may`], or 34; 35;
     /// 44 not open. The record stays as it is.
-    ///
-    /// [`Rota::may`]: crate::Rota::may
     pub fn ask<'a>(
         &self,
         lent: impl Into<Lent<'a>>,

@@ -1,8 +1,10 @@
 //! The header, the proved crates behind it and this wrapper declare the same functions and fields,
-//! and the header and the wrapper say the same of each refusal. Read from their texts. The README's
-//! example in Rust is the crate's first, which runs as a test.
+//! and the header and the wrapper have the same refusals, limits and version. Read from their texts.
+//! The README's example in Rust is the crate's first, which runs as a test.
 
-use softlode::Refusal;
+use softlode::{
+    ENOUGH_AREA, LARGEST_ROTA, LAST_MINUTE, MOST_QUESTIONS, Refusal, VERSION, fits, version,
+};
 
 const HEADER: &str = include_str!("../../../include/softlode.h");
 const INTERFACE: &str = include_str!("../../../crates/softlode/src/lib.rt");
@@ -14,7 +16,8 @@ const STRUCTURES: &str = concat!(
 );
 const WRAPPER: &str = concat!(
     include_str!("../src/ffi.rs"),
-    include_str!("../src/lent.rs"),
+    include_str!("../src/rota.rs"),
+    include_str!("../src/table.rs"),
     include_str!("../src/page.rs"),
     include_str!("../src/service.rs"),
     include_str!("../src/calendar.rs"),
@@ -142,7 +145,8 @@ fn c_functions() -> Vec<Function> {
         .map(|line| {
             let (gives, rest) = line.split_once(" softlode_").expect("a type and a name");
             let (name, rest) = rest.split_once('(').expect("parameters");
-            let parameters = rest.trim_end_matches(");").split(", ").map(|one| {
+            let parameters = rest.trim_end_matches(");").split(", ");
+            let parameters = parameters.filter(|one| *one != "void").map(|one| {
                 let name = one.rfind(|c: char| !c.is_ascii_lowercase()).expect("a type") + 1;
                 &one[..name]
             });
@@ -156,7 +160,7 @@ fn c_functions() -> Vec<Function> {
 #[test]
 fn the_same_functions() {
     let expected = c_functions();
-    assert_eq!(expected.len(), 20);
+    assert_eq!(expected.len(), 22);
     let kinds = [
         ("&[u8]", "bytes size"),
         ("&mut [u8]", "area size"),
@@ -176,15 +180,57 @@ fn the_same_functions() {
     assert_eq!(rust_functions(WRAPPER, &kinds, 2), expected);
 }
 
+/// The names, numbers and meanings of the refusals: an enumerator and a case of the header for each,
+/// and a line of the wrapper, from which its constants are made.
 #[test]
-fn the_same_meanings() {
-    let said: Vec<(u32, &str)> = HEADER
+fn the_same_refusals() {
+    let named = between(HEADER, "enum softlode_refusal {", "}")
+        .lines()
+        .filter_map(|line| line.trim().trim_end_matches(',').split_once(" = "));
+    let said: Vec<(&str, &str)> = HEADER
         .lines()
         .filter_map(|line| line.trim().strip_prefix("case ")?.split_once(": return "))
-        .map(|(number, text)| (number.parse().expect("a number"), text.trim_matches([';', '"'])))
         .collect();
-    let expected = Refusal::ALL.iter().map(|refusal| (refusal.number(), refusal.meaning()));
-    assert_eq!(said, [(0, "")].into_iter().chain(expected).collect::<Vec<_>>());
+    assert_eq!(said[0], ("0", "\"\";"));
+    let expected: Vec<String> = named
+        .zip(&said[1..])
+        .map(|((name, number), (case, meaning))| {
+            assert_eq!(name, *case);
+            let name = name.strip_prefix("SOFTLODE_").expect("a name of the library");
+            format!("{name} = {number}: {meaning}")
+        })
+        .collect();
+    let lines = between(include_str!("../src/refusal.rs"), "\nrefusals! {\n", "\n}").lines();
+    assert_eq!(lines.map(str::trim).collect::<Vec<_>>(), expected);
+    assert_eq!((expected.len(), said.len()), (Refusal::ALL.len(), Refusal::ALL.len() + 1));
+    for (refusal, line) in Refusal::ALL.iter().zip(&expected) {
+        let end = format!(" = {}: \"{}\";", refusal.number(), refusal.meaning());
+        assert!(line.ends_with(&end), "{line}");
+    }
+}
+
+/// The number of a macro of the header.
+fn c_number(name: &str) -> usize {
+    let number = between(HEADER, &format!("\n#define SOFTLODE_{name} "), "\n");
+    number.parse().unwrap_or_else(|_| panic!("{name} is {number}"))
+}
+
+#[test]
+fn the_same_limits() {
+    assert_eq!(LARGEST_ROTA, c_number("LARGEST_ROTA"));
+    assert_eq!(ENOUGH_AREA, c_number("ENOUGH_AREA"));
+    assert_eq!(LAST_MINUTE as usize, c_number("LAST_MINUTE"));
+    assert_eq!(MOST_QUESTIONS, c_number("MOST_QUESTIONS"));
+}
+
+/// Of the header, the wrapper, its package, and the library.
+#[test]
+fn the_same_version() {
+    let numbers = ["MAJOR", "MINOR", "PATCH"].map(|part| c_number(&format!("VERSION_{part}")));
+    assert_eq!(numbers.map(|number| number.to_string()).join("."), env!("CARGO_PKG_VERSION"));
+    assert_eq!(VERSION.to_string(), env!("CARGO_PKG_VERSION"));
+    assert_eq!(version(), VERSION);
+    assert!(fits());
 }
 
 #[test]

@@ -1,9 +1,13 @@
 //! The wrapper's own promises. What the calls answer is compared in `comparison`.
 
 use std::collections::HashSet;
+use std::sync::Arc;
 use std::thread;
 
-use softlode::{LAST_MINUTE, Lent, Question, Refusal, Rota, Service, Table, date, minute};
+use softlode::{
+    LARGEST_ROTA, LAST_MINUTE, Lent, Question, Refusal, Rota, RotaBuf, RotaOf, Service, Table,
+    TableBuf, TableOf, TableSize, date, minute,
+};
 
 const SMALL: &[u8] = include_bytes!("../../../data/small.rota");
 const SMALL_TABLE: &[u8] = include_bytes!("../../../data/small.table");
@@ -27,8 +31,34 @@ fn every_refusal_has_a_text_of_its_own() {
         assert_eq!(line, format!("refused {}: {}", refusal.number(), refusal.meaning()));
         assert!(line.len() <= 120 && !line.contains('\n'), "{line}");
     }
+    let told = format!("{:?}", Refusal::NOT_OPEN);
+    assert_eq!(told, "Refusal(44: the volunteer's session is not open)");
     let error: Box<dyn std::error::Error> = Refusal::NO_SUCH_DATE.into();
     assert!(error.to_string().starts_with("refused 50: the date"));
+}
+
+/// What a log gets: counts and lengths, and no bytes.
+#[test]
+fn debug_texts() {
+    let rota = Rota::read(SMALL).unwrap();
+    let rota_text = "Rota { counts: RotaCounts { cycle: 10, hours: 2, volunteers: 2, rights: 1, \
+                     roles: 1, volunteer_rows: 2, right_rows: 1, format: 1 }, length: 54 }";
+    assert_eq!(format!("{rota:?}"), rota_text);
+    assert_eq!(format!("{:?}", RotaBuf::read(SMALL.to_vec())), format!("Ok({rota_text})"));
+    let table = rota.to_table().unwrap();
+    let table_text = "Table { counts: TableCounts { cycle: 10, volunteers: 2, rights: 1, roles: 1, \
+                      derived: 3, rows: 8 }, length: 195 }";
+    assert_eq!(format!("{table:?}"), table_text);
+    assert_eq!(format!("{:?}", table.as_table()), table_text);
+    let mut area = [0; 195];
+    let written = format!("{:?}", rota.rewrite(&mut area).unwrap());
+    assert_eq!(written, "Written { derived: 3, rows: 8, length: 195 }");
+    let lent = [Lent::from(&rota), Lent::from(&table)];
+    assert_eq!(format!("{lent:?}"), "[Rota(54 bytes), Table(195 bytes)]");
+    let boards = [3, 12, 37].map(|minute| format!("{:?}", table.board(minute).unwrap()));
+    assert_eq!(boards[0], "Board { rows: 1, rights: {0: [0]} }");
+    assert_eq!(boards[1], "Board { rows: 1, rights: {0: [0], 1: [0]} }");
+    assert_eq!(boards[2], "Board { rows: 0, rights: {} }");
 }
 
 #[test]
@@ -235,6 +265,73 @@ fn a_refused_rewriting_leaves_the_area() {
     assert_eq!(Table::read(&area), Err(Refusal::TABLE_LENGTH), "not the whole area");
 }
 
+#[test]
+fn the_size_of_a_table() {
+    for (file, expected, derived, rows) in [(SMALL, SMALL_TABLE, 3, 8), (WEEK, WEEK_TABLE, 23, 239)]
+    {
+        let rota = Rota::read(file).unwrap();
+        let length = expected.len();
+        assert_eq!(rota.table_size(), Ok(TableSize { derived, rows, length }));
+        let mut area = vec![0xa5; length];
+        assert_eq!(rota.rewrite(&mut area[1..]), Err(Refusal::AREA_TOO_SMALL));
+        assert_eq!(area, vec![0xa5; length]);
+        assert_eq!(rota.rewrite(&mut area).unwrap().bytes, expected);
+        assert_eq!(rota.rewrite_to_vec().unwrap(), expected);
+        assert_eq!(rota.to_table(), TableBuf::read(expected.to_vec()));
+    }
+}
+
+/// Everything at its limit at once is accepted, and no byte more.
+#[test]
+fn the_largest_rota() {
+    let header = [1, 0, 17, 0, 32, 64, 64, 32, 0, 2, 0, 2];
+    let hours = [[0, 0, 0, 0], [1, 0, 0, 0], [8, 0, 0, 0]].concat()[..10].to_vec();
+    let pairs: Vec<u8> = (0..8).flat_map(|pair| [2 * pair, 0, 1, 0]).collect();
+    let mut rota = [&header[..], &[hours, pairs].concat().repeat(32), &[255; 32]].concat();
+    rota.extend([0, 0, 255].repeat(1_024));
+    assert_eq!(rota.len(), LARGEST_ROTA);
+    assert!(Rota::read(&rota).is_ok());
+    rota.push(0);
+    assert_eq!(Rota::read(&rota), Err(Refusal::ROTA_LENGTH));
+}
+
+/// What owns its bytes answers as what is lent, whoever keeps it, and gives them back.
+#[test]
+fn owned() {
+    struct Server {
+        rota: RotaBuf,
+        table: TableBuf,
+    }
+    let rota = RotaBuf::read(WEEK.to_vec()).unwrap();
+    let server = Server { table: rota.to_table().unwrap(), rota };
+    let expected = week(Lent::Rota(WEEK));
+    let server = thread::spawn(move || {
+        assert_eq!(week(Lent::from(&server.rota)), expected);
+        assert_eq!(week(Lent::from(&server.table)), expected);
+        server
+    });
+    let Server { rota, table } = server.join().unwrap();
+    assert_eq!(rota.as_rota(), Rota::read(WEEK).unwrap());
+    assert_eq!(table.as_table(), Table::read(WEEK_TABLE).unwrap());
+    assert_eq!((rota.bytes(), table.bytes()), (WEEK, WEEK_TABLE));
+    assert_eq!((rota.into_bytes(), table.into_bytes()), (WEEK.to_vec(), WEEK_TABLE.to_vec()));
+    assert_eq!(RotaBuf::read(WEEK_TABLE.to_vec()), Err(Refusal::ROTA_FORMAT));
+    assert_eq!(TableBuf::read(WEEK.to_vec()), Err(Refusal::TABLE_FORMAT));
+}
+
+#[test]
+fn shared() {
+    let (rota, table): (Arc<[u8]>, Arc<[u8]>) = (WEEK.into(), WEEK_TABLE.into());
+    let (rota, table) = (RotaOf::read(rota).unwrap(), TableOf::read(table).unwrap());
+    let monday = minute(2024, 2, 26, 9, 0).unwrap();
+    let (other, same) = (rota.clone(), table.clone());
+    let thread = thread::spawn(move || (other.may(0, 4, monday), same.may(0, 4, monday)));
+    assert_eq!(thread.join().unwrap(), (Ok(Some(2)), Ok(Some(2))));
+    let mut service = Service::fresh();
+    assert_eq!(service.advance(&rota.as_rota(), monday), Ok(0));
+    assert_eq!(service.open(&table.as_table(), 0), Ok(()));
+}
+
 /// The rota with both kinds of rows in the other order, and the first volunteer row twice.
 fn respelled(rota: &[u8]) -> Vec<u8> {
     let counts = Rota::read(rota).unwrap().counts();
@@ -257,6 +354,8 @@ fn the_tidy_small_rota() {
     let mut area = [0xa5; 60];
     assert_eq!(rota.tidy(&mut area), Ok(&expected[..]));
     assert_eq!(area[54..], [0xa5; 6]);
+    assert_eq!(rota.tidy_to_vec().unwrap(), expected);
+    assert_eq!(rota.to_tidy(), RotaBuf::read(expected.clone()));
     let mut area = [0xa5; 53];
     assert_eq!(rota.tidy(&mut area), Err(Refusal::AREA_TOO_SMALL));
     assert_eq!(area, [0xa5; 53]);
@@ -267,6 +366,7 @@ fn the_tidy_small_rota() {
     let longer = respelled(SMALL);
     assert_eq!(longer.len(), 57);
     assert_eq!(Rota::read(&longer).unwrap().tidy(&mut [0; 54]), Ok(&expected[..]));
+    assert_eq!(Rota::read(&longer).unwrap().tidy_to_vec().unwrap(), expected);
     for (at, refusal) in [(53, Refusal::RIGHT_ROW), (0, Refusal::ROTA_FORMAT)] {
         let mut bad = expected.clone();
         bad[at] = 2;
@@ -335,13 +435,12 @@ fn with_stack<T: Send>(size: usize, run: impl FnOnce() -> T + Send) -> T {
     })
 }
 
-/// A rewriting takes less than 1 MiB of stack; the rest is for the thread itself.
+/// A rewriting, and a table's size, take less than 1 MiB of stack; the rest is for the thread itself.
 #[test]
 fn stack_of_a_rewriting() {
-    let mut area = vec![0; AREA_SIZE];
     for (rota, table) in [(SMALL, SMALL_TABLE), (WEEK, WEEK_TABLE)] {
         let written = with_stack((1 << 20) + (16 << 10), || {
-            Rota::read(rota).unwrap().rewrite(&mut area).unwrap().bytes.to_vec()
+            Rota::read(rota).unwrap().rewrite_to_vec().unwrap()
         });
         assert_eq!(written, table);
     }

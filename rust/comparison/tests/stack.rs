@@ -9,10 +9,12 @@ use std::thread;
 use cases::generate::{self, LIMITS, Sets};
 use cases::random::Random;
 use cases::worst;
+use comparison::ffi::rewriting::{rewrite, size};
+use comparison::ffi::tidying::tidy;
 use softlode::{Lent, Question, Rota, Service, Table, date, minute};
 
-/// How far the stack is painted for a rewriting, and for every other call. A tidying may take half
-/// of the latter.
+/// How far the stack is painted for a rewriting and a size, and for every other call. A
+/// tidying may take half of the latter.
 const FAR: usize = 5 << 18;
 const NEAR: usize = 1 << 16;
 const PAINT: u64 = 0x5AFE_C0DE_5AFE_C0DE;
@@ -91,46 +93,10 @@ fn rotas() -> Vec<Vec<u8>> {
     rotas
 }
 
-#[repr(C)]
-struct Tidied {
-    refusal: u32,
-    _length: u64,
-}
-
-#[repr(C)]
-struct Written {
-    refusal: u32,
-    _derived: u32,
-    _rows: u32,
-    _length: u64,
-}
-
-unsafe extern "C" {
-    fn softlode_rota_tidy(rota: *const u8, length: usize, area: *mut u8, size: usize) -> Tidied;
-    fn softlode_rewrite(rota: *const u8, length: usize, area: *mut u8, size: usize) -> Written;
-}
-
-/// The refusal of a rewriting, and the stack that it took.
-fn rewrite(rota: &[u8], area: &mut [u8]) -> (u32, usize) {
+/// The refusal of a call, and the stack that it took.
+fn refusal_and_stack(size: usize, call: impl FnOnce() -> u32) -> (u32, usize) {
     let mut refusal = 0;
-    let stack = stack_of(FAR, || {
-        // SAFETY: the bytes and the area are lent for the time of the call, the area exclusively.
-        let written =
-            unsafe { softlode_rewrite(rota.as_ptr(), rota.len(), area.as_mut_ptr(), area.len()) };
-        refusal = written.refusal;
-    });
-    (refusal, stack)
-}
-
-/// The refusal of a tidying, and the stack that it took.
-fn tidy(rota: &[u8], area: &mut [u8]) -> (u32, usize) {
-    let mut refusal = 0;
-    let stack = stack_of(NEAR, || {
-        // SAFETY: the bytes and the area are lent for the time of the call, the area exclusively.
-        let tidied =
-            unsafe { softlode_rota_tidy(rota.as_ptr(), rota.len(), area.as_mut_ptr(), area.len()) };
-        refusal = tidied.refusal;
-    });
+    let stack = stack_of(size, || refusal = call());
     (refusal, stack)
 }
 
@@ -142,7 +108,7 @@ fn of_a_tidying() {
         let (mut tidied, mut refused) = (Vec::new(), Vec::new());
         for rota in rotas() {
             for size in [0, 8_192] {
-                match tidy(&rota, &mut area[..size]) {
+                match refusal_and_stack(NEAR, || tidy(&rota, &mut area[..size]).refusal) {
                     (0, stack) => tidied.push(stack),
                     (_, stack) => refused.push(stack),
                 }
@@ -163,7 +129,7 @@ fn of_a_rewriting() {
         let mut tables = 0;
         for rota in rotas() {
             for size in [0, 65_536, 1_000_000] {
-                match rewrite(&rota, &mut area[..size]) {
+                match refusal_and_stack(FAR, || rewrite(&rota, &mut area[..size]).refusal) {
                     (1..=12 | 52, stack) => refused.push(stack),
                     (refusal, stack) => {
                         tables += u32::from(refusal == 0);
@@ -175,6 +141,23 @@ fn of_a_rewriting() {
         assert!(most("a rewriting", &accepted) < 1 << 20);
         assert!(most("a rewriting that refuses the rota", &refused) < 1 << 20);
         assert!(tables > 300, "{tables} tables");
+    });
+}
+
+/// The size of a table, told without an area.
+#[test]
+fn of_a_size() {
+    on_thread(|| {
+        let (mut told, mut refused) = (Vec::new(), Vec::new());
+        for rota in rotas() {
+            match refusal_and_stack(FAR, || size(&rota).refusal) {
+                (0, stack) => told.push(stack),
+                (_, stack) => refused.push(stack),
+            }
+        }
+        assert!(most("a size", &told) < 1 << 20);
+        assert!(most("a size that refuses the rota", &refused) < 1 << 20);
+        assert!(told.len() > 200, "{} sizes", told.len());
     });
 }
 
