@@ -1,4 +1,4 @@
-//! Rewriting a rota into an area.
+//! Rewriting a rota into an area, and how large one it takes.
 
 #[repr(C)]
 #[derive(Clone, Copy, Debug, Default, PartialEq, Eq)]
@@ -11,10 +11,15 @@ pub struct Rewritten {
 
 unsafe extern "C" {
     fn softlode_rewrite(s: *const u8, len: usize, out: *mut u8, out_len: usize) -> Rewritten;
+    fn softlode_rewrite_size(s: *const u8, len: usize) -> Rewritten;
 }
 
 pub fn rewrite(rota: &[u8], area: &mut [u8]) -> Rewritten {
     unsafe { softlode_rewrite(rota.as_ptr(), rota.len(), area.as_mut_ptr(), area.len()) }
+}
+
+pub fn size(rota: &[u8]) -> Rewritten {
+    unsafe { softlode_rewrite_size(rota.as_ptr(), rota.len()) }
 }
 
 /// The table of an accepted rota, in an area that grows until it fits.
