@@ -108,30 +108,33 @@ struct Written {
 unsafe extern "C" {
     fn softlode_rota_tidy(rota: *const u8, length: usize, area: *mut u8, size: usize) -> Tidied;
     fn softlode_rewrite(rota: *const u8, length: usize, area: *mut u8, size: usize) -> Written;
+    fn softlode_rewrite_size(rota: *const u8, length: usize) -> Written;
 }
 
-/// The refusal of a rewriting, and the stack that it took.
+/// The refusal of a call, and the stack that it took.
+fn refusal_and_stack(size: usize, call: impl FnOnce() -> u32) -> (u32, usize) {
+    let mut refusal = 0;
+    let stack = stack_of(size, || refusal = call());
+    (refusal, stack)
+}
+
 fn rewrite(rota: &[u8], area: &mut [u8]) -> (u32, usize) {
-    let mut refusal = 0;
-    let stack = stack_of(FAR, || {
-        // SAFETY: the bytes and the area are lent for the time of the call, the area exclusively.
-        let written =
-            unsafe { softlode_rewrite(rota.as_ptr(), rota.len(), area.as_mut_ptr(), area.len()) };
-        refusal = written.refusal;
-    });
-    (refusal, stack)
+    // SAFETY: the bytes and the area are lent for the time of the call, the area exclusively.
+    refusal_and_stack(FAR, || unsafe {
+        softlode_rewrite(rota.as_ptr(), rota.len(), area.as_mut_ptr(), area.len()).refusal
+    })
 }
 
-/// The refusal of a tidying, and the stack that it took.
+fn size(rota: &[u8]) -> (u32, usize) {
+    // SAFETY: the bytes are lent for the time of the call.
+    refusal_and_stack(FAR, || unsafe { softlode_rewrite_size(rota.as_ptr(), rota.len()).refusal })
+}
+
 fn tidy(rota: &[u8], area: &mut [u8]) -> (u32, usize) {
-    let mut refusal = 0;
-    let stack = stack_of(NEAR, || {
-        // SAFETY: the bytes and the area are lent for the time of the call, the area exclusively.
-        let tidied =
-            unsafe { softlode_rota_tidy(rota.as_ptr(), rota.len(), area.as_mut_ptr(), area.len()) };
-        refusal = tidied.refusal;
-    });
-    (refusal, stack)
+    // SAFETY: as for a rewriting.
+    refusal_and_stack(NEAR, || unsafe {
+        softlode_rota_tidy(rota.as_ptr(), rota.len(), area.as_mut_ptr(), area.len()).refusal
+    })
 }
 
 /// Into no area, and into one that is long enough.
@@ -175,6 +178,23 @@ fn of_a_rewriting() {
         assert!(most("a rewriting", &accepted) < 1 << 20);
         assert!(most("a rewriting that refuses the rota", &refused) < 1 << 20);
         assert!(tables > 300, "{tables} tables");
+    });
+}
+
+/// The size of a table, told without an area.
+#[test]
+fn of_a_size() {
+    on_thread(|| {
+        let (mut told, mut refused) = (Vec::new(), Vec::new());
+        for rota in rotas() {
+            match size(&rota) {
+                (0, stack) => told.push(stack),
+                (_, stack) => refused.push(stack),
+            }
+        }
+        assert!(most("a size", &told) < 1 << 20);
+        assert!(most("a size that refuses the rota", &refused) < 1 << 20);
+        assert!(told.len() > 200, "{} sizes", told.len());
     });
 }
 
