@@ -30,7 +30,8 @@ use Rattle.derivation.proofs.RoleByRole.{by-roles}
 use Rattle.counting.specs.Parts.{lengthWith, CountedTo}
 use Rattle.counting.specs.declared.Count.{Count}
 use Rattle.placing.proofs.TableLaws.{size-fits}
-use Rattle.area.specs.Parts.{countsOf, placedOutcome, placedArea}
+use Rattle.placing.specs.Parts.{placedArea}
+use Rattle.area.specs.Parts.{countsOf, placedOutcome}
 
 module _ (τ : Table) (room : ℕ) where
   -- the table is longer than the area
@@ -60,26 +61,21 @@ module _ (τ : Table) (room : ℕ) where
           → pick (ltb room (lengthWith (k .entries) (k .rows))) (refused 20) (given (countsOf k)) ≡ placedOutcome τ room
       within h = rw (le-ltb room (lengthWith (k .entries) (k .rows)) h) (written k (size-fits τ room k q h) (q .exact h))
 
--- the area is as placing leaves it
-pub left-so : (τ : Table) (area after : List ℕ) → after ≡ pick (ltb (length area) (sizeOf τ)) area (tableBytes τ ++ drop (sizeOf τ) area)
-    → after ≡ placedArea τ area
-unfolding placedArea
-left-so τ area after e = e
-
-module _ (s area : List ℕ) where
+module _ (s area : List ℕ) (room : ℕ) where
   -- the bytes are no rota
-  pub not-a-rota : (code : ℕ) → refused code ≡ layoutOutcome s → (refused code ≡ rewriteOutcome s (length area)) × (area ≡ areaAfter s area)
-  unfolding rewriteOutcome areaAfter rewriteJudged
+  pub not-a-rota : (code : ℕ) → refused code ≡ layoutOutcome s → (refused code ≡ rewriteOutcome s room) × (area ≡ areaAfter s area)
+  unfolding rewriteOutcome areaAfter
   not-a-rota code e =
       let r = not-located s code e in
-      let j : rotaJudged s orElse refuse 20 (ltb (length area) (sizeOf (rewrite (rotaOf s)))) ≡ code
-      = orElse-ne (rotaJudged s) (refuse 20 (ltb (length area) (sizeOf (rewrite (rotaOf s))))) (r .1) ∙ r .0 in
       let ne : code ≡ 0 → ⊥ = λ z. r .1 (r .0 ∙ z) in
-      (rw j (outcome-refused code _ ne), rw (j, ne-eqb code 0 ne))
+      (rw (judged room) (outcome-refused code _ ne), rw (judged (length area), ne-eqb code 0 ne))
+    where
+      judged : (room : ℕ) → rewriteJudged s room ≡ code
+      judged room = let r = not-located s code e in unfold rewriteJudged in orElse-ne (rotaJudged s) (refuse 20 (ltb room (sizeOf (rewrite (rotaOf s))))) (r .1) ∙ r .0
 
   -- they are, and its table is put into the area
   module _ (clear : rotaJudged s ≡ 0) where
-    answered : placedOutcome (rewrite (rotaOf s)) (length area) ≡ rewriteOutcome s (length area)
+    answered : placedOutcome (rewrite (rotaOf s)) room ≡ rewriteOutcome s room
     unfolding placedOutcome rewriteOutcome rewriteJudged _orElse_
     answered = rw clear
 
@@ -93,10 +89,10 @@ module _ (s area : List ℕ) where
         by-test false = unfold refuse in refl
 
     -- where it is that of all roles
-    pub rewritten : (τ : Table) → rewrite (rotaOf s) ≡ τ → (x : Outcome Written) (after : List ℕ) → (x ≡ placedOutcome τ (length area)) × (after ≡ placedArea τ area)
-        → (x ≡ rewriteOutcome s (length area)) × (after ≡ areaAfter s area)
+    pub rewritten : (τ : Table) → rewrite (rotaOf s) ≡ τ → (x : Outcome Written) (after : List ℕ) → (x ≡ placedOutcome τ room) × (after ≡ placedArea τ area)
+        → (x ≡ rewriteOutcome s room) × (after ≡ areaAfter s area)
     rewritten τ e x after q = (
-      q .0 ∙ ap (λ (y : Table). placedOutcome y (length area)) (sym e) ∙ answered,
+      q .0 ∙ ap (λ (y : Table). placedOutcome y room) (sym e) ∙ answered,
       q .1 ∙ ap (λ (y : Table). placedArea y area) (sym e) ∙ left,
     )
 

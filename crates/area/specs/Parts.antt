@@ -1,13 +1,11 @@
 -- What the steps of the rewriting promise one another: a table put into an area.
 use Prim.Native.Nat.{ℕ, _+_, _*_, _≤_, _<_}
-use mathlib.Core.List.{List, _++_}
+use mathlib.Core.List.{List}
 use lib.Dec.{ltb}
-use lib.ListN.{length, drop}
-use Rattle.ground.specs.Choice.{pick}
+use lib.ListN.{length}
 use Rattle.ground.specs.Judgement.{refuse}
 use Rattle.ground.specs.Outcome.{Outcome, outcome}
 use Rattle.table.specs.Table.{Table}
-use Rattle.table.specs.TableBytes.{tableBytes}
 use Rattle.derivation.specs.Rewriting.{sizeOf, Written, writtenOf}
 use Rattle.counting.specs.Parts.{lengthWith}
 use Rattle.counting.specs.declared.Count.{Count}
@@ -15,10 +13,6 @@ use Rattle.counting.specs.declared.Count.{Count}
 -- what is told of a table that is put into an area with so much room: 20 exactly where it is longer
 unfoldable pub placedOutcome : Table → ℕ → Outcome Written
 placedOutcome τ room = outcome (refuse 20 (ltb room (sizeOf τ))) (writtenOf τ)
-
--- the area afterwards: the table's bytes at its start, or as it came where they do not fit
-unfoldable pub placedArea : Table → List ℕ → List ℕ
-placedArea τ area = pick (ltb (length area) (sizeOf τ)) area (tableBytes τ ++ drop (sizeOf τ) area)
 
 -- what is told of a table by its counts
 abbrev pub countsOf : Count → Written

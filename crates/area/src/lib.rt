@@ -10,7 +10,8 @@ ghost use Rattle.rota.specs.RotaBytes.{rolesOf, rotaOf};
 ghost use Rattle.derivation.specs.Roles.{rewriteRoles};
 ghost use Rattle.grid.specs.Grid.{Parted};
 ghost use Rattle.counting.specs.Parts.{lengthWith};
-ghost use Rattle.area.specs.Parts.{Scratch, countsOf, placedOutcome, placedArea};
+ghost use Rattle.placing.specs.Parts.{placedArea};
+ghost use Rattle.area.specs.Parts.{Scratch, countsOf, placedOutcome};
 ghost use Rattle.area.specs.Answers.{writtenGiven};
 use counting::Count;
 use rota::Layout;
@@ -25,7 +26,7 @@ pub enum Rewritten {
     Refused(u8),
 }
 
-// What is told of a table with such counts: 20 where it is longer than the area.
+// What is told of a table with such counts: 20 where it is longer than the room.
 fn answer(k: Count, room: usize) -> Rewritten
     requires { ⌜ (k .entries ≤ 1067040) × (k .rows ≤ 1067040) ⌝ }
     ensures { λ r. ⌜ writtenGiven r ≡ pick (ltb room (lengthWith (k .entries) (k .rows))) (refused 20) (given (countsOf k)) ⌝ }
@@ -55,13 +56,15 @@ fn trees(n: usize, most: usize) -> usize
     most
 }
 
-// Rewrites the roles from `first` on, up to `end`, of a rota that is read and divided, in lent scratch with a place for each field.
+// Rewrites the roles from `first` on, up to `end`, of a rota that is read and divided, in lent scratch with a place for each field. The table is counted to
+// `room`, which decides 20, and written where it fits the area.
 pub fn rewrite_with(
     s: &[u8],
     l: Layout,
     first: u8,
     end: u8,
     out: &mut [u8],
+    room: usize,
     eras: &[u32],
     ne: usize,
     cells: &[u32],
@@ -76,9 +79,10 @@ pub fn rewrite_with(
     links: &mut [u16],
     most: usize,
 ) -> Rewritten
-    requires { ⌜ Located (now s) l × (first ≤ end) × (end ≤ rolesOf (now s)) × Parted (now s) (now eras) ne (now cells) nc ⌝ }
+    requires { ⌜ Located (now s) l × (first ≤ end) × (end ≤ rolesOf (now s)) × Parted (now s) (now eras) ne (now cells) nc
+        × (length (now out) ≤ room) ⌝ }
     requires { ⌜ Scratch (ne * nc) nc most (now held) (now row) (now kinds) (now lens) (now masks) (now pairs) (now marks) (now links) ⌝ }
-    ensures { λ r. ⌜ (writtenGiven r ≡ placedOutcome (rewriteRoles (rotaOf (now (s .entry))) first end) (length (now (out .entry))))
+    ensures { λ r. ⌜ (writtenGiven r ≡ placedOutcome (rewriteRoles (rotaOf (now (s .entry))) first end) room)
         × (now (out .exit) ≡ placedArea (rewriteRoles (rotaOf (now (s .entry))) first end) (now (out .entry))) ⌝ }
 {
     let mut ends = [0usize; 66];
@@ -100,13 +104,13 @@ pub fn rewrite_with(
         all,
     );
     let w = trees(n, most);
-    let room = out.len();
     let k = placing::place_table(
         s,
         l,
         first,
         end,
         out,
+        room,
         eras,
         ne,
         cells,

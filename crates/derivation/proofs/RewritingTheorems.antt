@@ -6,28 +6,39 @@
 --     same-through, same-answer           the table answers as the rota does
 --     fewest                              no other table of untimed users and permissions has fewer derived roles of a role
 --     worked-field                        the worked field of document 01
+--     fits, fits-as-told                  an area takes the table exactly where it is as long as the size that is told beforehand
+--     always-enough, enough-told          35,212,336 bytes are enough for every table, so with them the rewriting tells the size
 -- And of the rows that touch (document 02, item 4), in Joining.antt:
 --     joined-same, joined-none, joined-fewer    joined, they enable the same at the same minutes, none touches the next, and there are no more
 -- Assumes nothing.
-use Prim.Native.Nat.{ℕ, _≤_, _<_}
-use mathlib.Core.Path.{_≡_, sym, ap, _∙_}
+use Prim.Native.Nat.{ℕ, zero, suc, _≤_, _<_}
+use mathlib.Core.Path.{_≡_, refl, sym, ap, _∙_}
 use mathlib.Core.Logic.{_↔_}
 use mathlib.Core.Bool.{true}
 use mathlib.Core.Option.{none, some}
 use mathlib.Core.List.{List, List·Memᴰ}
+use native.Mathlib.Omega.{arith}
 use lib.Dec.{ltb, eqb}
 use lib.ListN.{length}
+use borrow.Author.Tests.{le-ltb, ltb-false}
 use Rattle.ground.specs.Search.{countOf}
 use Rattle.ground.specs.Choice.{pick}
+use Rattle.ground.specs.Judgement.{refuse, _orElse_}
+use Rattle.ground.specs.Outcome.{given, outcome}
+use Rattle.ground.proofs.JudgementLaws.{orElse-zero, refuse-no, refuse-none}
+use Rattle.ground.proofs.OutcomeLaws.{outcome-given, given-by}
 use Rattle.minutes.specs.Minutes.{E, Window, covers}
 use Rattle.minutes.specs.First.{minuteOf}
 use Rattle.rota.specs.Rota.{Rota}
 use Rattle.rota.specs.Rota as rota
+use Rattle.rota.specs.RotaBytes.{rotaOf}
+use Rattle.rota.specs.RotaRefusals.{rotaJudged}
 use Rattle.rota.specs.RotaWell.{RotaWell}
+use Rattle.rota.proofs.RotaTheorems.{accepted-well}
 use Rattle.rota.proofs.AlikeLaws.{alike-enabled, alike-user, alike-permission}
 use Rattle.table.specs.Table.{Entry}
 use Rattle.table.specs.Table as table
-use Rattle.derivation.specs.Rewriting.{fields, derivedAt, active, keptAs, Kept, kept, unjoined, rewrite}
+use Rattle.derivation.specs.Rewriting.{fields, derivedAt, active, keptAs, Kept, kept, unjoined, rewrite, sizeOf, rewriteJudged, Written, writtenOf, rewriteOutcome, sizeOutcome}
 use Rattle.derivation.specs.Masks.{maskOf, keptIn}
 use Rattle.derivation.specs.Constancy.{SameAt}
 use Rattle.derivation.specs.Worked.{example, field}
@@ -40,6 +51,7 @@ use Rattle.derivation.proofs.MaskLaws.{mask-kept}
 use Rattle.derivation.proofs.MeaningLaws.{Active, active-in, active-out, Found, complete, of-active, of-is, of-place, through-same, answer-same}
 use Rattle.derivation.proofs.FewestLaws.{no-fewer}
 use Rattle.derivation.proofs.Joining.{joined-same, joined-through, joined-answer, joined-rival}
+use Rattle.derivation.proofs.TableRewritten.{size-few}
 use Rattle.derivation.proofs.WorkedField.{field-in, not-kept, not-among}
 
 -- `active` of the rules says just this
@@ -123,3 +135,50 @@ module _ {ρ : Rota} (w : RotaWell ρ) where
 -- with C 10, hours (3, 5, pair (0, 10)) and (0, E, pair (6, 2)): era 3 to 5 with cell 6 to 8 is a field, and no kept field
 pub worked-field : List·Memᴰ field (fields example) × (keptAs example 0 field ≡ none) × ((k : Kept) → List·Memᴰ k (kept example) → k .field ≡ field → ⊥)
 worked-field = (field-in, not-kept 0, not-among)
+
+-- a second judgement that refuses nothing where the first does not
+idle : (a b : ℕ) → (a ≡ 0 → b ≡ 0) → a orElse b ≡ a
+unfolding _orElse_
+idle zero b h = h refl
+idle (suc a) b h = refl
+
+module _ (s : List ℕ) where
+  no-20 : (room : ℕ) → (rotaJudged s ≡ 0 → sizeOf (rewrite (rotaOf s)) ≤ room) → rewriteJudged s room ≡ rotaJudged s
+  unfolding rewriteJudged
+  no-20 room h = idle (rotaJudged s) _ (λ a. refuse-none 20 _ (le-ltb room (sizeOf (rewrite (rotaOf s))) (h a)))
+
+  -- a rota is rewritten exactly into the areas that are as long as its table
+  pub fits : (room : ℕ) → (rewriteJudged s room ≡ 0) ↔ ((rotaJudged s ≡ 0) × (sizeOf (rewrite (rotaOf s)) ≤ room))
+  unfolding rewriteJudged
+  fits room = (
+    (λ h.
+        let j = orElse-zero (rotaJudged s) (refuse 20 (ltb room (sizeOf (rewrite (rotaOf s))))) h in
+        (j .0, ltb-false room (sizeOf (rewrite (rotaOf s))) (refuse-no 19 (ltb room (sizeOf (rewrite (rotaOf s)))) (j .1)))),
+    (λ h. no-20 room (λ _. h .1) ∙ h .0),
+  )
+
+  -- and with the numbers that are told without an area
+  pub fits-as-told : (room : ℕ) (w : Written) → (rewriteOutcome s room ≡ given w) ↔ ((sizeOutcome s ≡ given w) × (w .length ≤ room))
+  unfolding rewriteOutcome sizeOutcome
+  fits-as-told room w = (
+    (λ h.
+        let g = given-by w (rewriteJudged s room) (writtenOf (rewrite (rotaOf s))) (sym h) in
+        let f = fits room .0 (g .0) in
+        (sym (outcome-given (rotaJudged s) (writtenOf (rewrite (rotaOf s))) (f .0)) ∙ ap given (sym (g .1)), omega (arith, f .1, long (g .1)))),
+    (λ h.
+        let g = given-by w (rotaJudged s) (writtenOf (rewrite (rotaOf s))) (sym (h .0)) in
+        let f = fits room .1 (g .0, omega (arith, h .1, long (g .1))) in
+        sym (outcome-given (rewriteJudged s room) (writtenOf (rewrite (rotaOf s))) f) ∙ ap given (sym (g .1))),
+  )
+    where
+      long : w ≡ writtenOf (rewrite (rotaOf s)) → w .length ≡ sizeOf (rewrite (rotaOf s))
+      long e = unfold writtenOf in ap (λ (x : Written). x .length) e
+
+  -- so many bytes are enough for every table
+  pub always-enough : rotaJudged s ≡ 0 → sizeOf (rewrite (rotaOf s)) ≤ 35212336
+  always-enough a = size-few (rotaOf s) (accepted-well s a)
+
+  -- so with them the rewriting gives what is told without an area, refusals too
+  pub enough-told : rewriteOutcome s 35212336 ≡ sizeOutcome s
+  unfolding rewriteOutcome sizeOutcome
+  enough-told = ap (λ (j : ℕ). outcome j (writtenOf (rewrite (rotaOf s)))) (no-20 35212336 always-enough)

@@ -148,6 +148,10 @@ writtenOf τ = record { derived = length (τ .entries); rows = length (τ .rows)
 unfoldable pub rewriteOutcome : List ℕ → ℕ → Outcome Written
 rewriteOutcome s room = outcome (rewriteJudged s room) (writtenOf (rewrite (rotaOf s)))
 
+-- how large the table of a rota is, without an area: the rota's refusal alone
+unfoldable pub sizeOutcome : List ℕ → Outcome Written
+sizeOutcome s = outcome (rotaJudged s) (writtenOf (rewrite (rotaOf s)))
+
 -- the area afterwards: as it came where anything is refused, else the table's bytes at its start and the bytes past their length kept
 unfoldable pub areaAfter : List ℕ → List ℕ → List ℕ
 areaAfter s area =

@@ -6,11 +6,10 @@ use mathlib.Core.List.{List, _++_}
 use native.Mathlib.Omega.{arith}
 use lib.ListN.{length, drop}
 use lib.Seq.{sets, length-sets}
-use lib.Dec.{ltb, leb}
+use lib.Dec.{leb}
 use mathlib.Core.Bool.{Bool, true, false}
 use borrow.Author.Tests.{lt-ltb, le-ltb, le-leb, lt-leb, leb-true, leb-false}
 use Rattle.table.specs.declared.Counts.{Counts}
-use Rattle.ground.specs.Choice.{pick}
 use Rattle.ground.specs.Sequence.{joined}
 use Rattle.endian.specs.Numbers.{bytes16, bytes32}
 use Rattle.endian.proofs.StandsLaws.{joined-length}
@@ -22,7 +21,7 @@ use Rattle.table.specs.TableBytes.{headerBytes, entryBytes, rowBytes, tableByte
 use Rattle.derivation.specs.Rewriting.{sizeOf}
 use Rattle.derivation.specs.Roles.{rewriteRoles}
 use Rattle.rota.specs.Inside.{Located}
-use Rattle.placing.specs.Parts.{HeaderFits, started}
+use Rattle.placing.specs.Parts.{HeaderFits, started, placedArea}
 use Rattle.counting.specs.Parts.{lengthWith, CountedTo}
 use Rattle.counting.specs.declared.Count.{Count}
 use Rattle.rota.proofs.LocatedLaws.{fine, counted}
@@ -125,8 +124,8 @@ module _ (s : List ℕ) (l : Layout) (w : Located s l) where
     pub has-written : b ≡ true → (last : List ℕ)
         → last ≡ sets (sets after 16 (joined entryBytes (rewriteRoles (rotaOf s) first end .entries))) (16 + 17 * k .entries)
         (joined rowBytes (rewriteRoles (rotaOf s) first end .rows))
-        → last ≡ pick (ltb (length area) (sizeOf (rewriteRoles (rotaOf s) first end))) area
-        (tableBytes (rewriteRoles (rotaOf s) first end) ++ drop (sizeOf (rewriteRoles (rotaOf s) first end)) area)
+        → last ≡ placedArea (rewriteRoles (rotaOf s) first end) area
+    unfolding placedArea
     has-written t last e =
         let g = begun t in
         let z = q .exact (g .0) in
@@ -134,8 +133,8 @@ module _ (s : List ℕ) (l : Layout) (w : Located s l) where
         table-written first end (k .entries) (k .rows) (z .0) (z .1) area after last f (g .1) e
         ∙ rw (le-ltb (length area) (sizeOf (rewriteRoles (rotaOf s) first end)) f)
 
-    pub has-not : b ≡ false → after ≡ pick (ltb (length area) (sizeOf (rewriteRoles (rotaOf s) first end))) area
-        (tableBytes (rewriteRoles (rotaOf s) first end) ++ drop (sizeOf (rewriteRoles (rotaOf s) first end)) area)
+    pub has-not : b ≡ false → after ≡ placedArea (rewriteRoles (rotaOf s) first end) area
+    unfolding placedArea
     has-not t =
         let g = started-no area (countsWith l (k .entries) (k .rows)) size b after eb t ea in
         g .1 ∙ rw (lt-ltb (length area) (sizeOf (rewriteRoles (rotaOf s) first end)) (q .over (omega (arith, g .0, es))))

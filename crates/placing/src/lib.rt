@@ -1,21 +1,17 @@
 // A table put into an area: written where it fits, else nothing is.
 ghost use mathlib.Core.Path.{_≡_};
 ghost use mathlib.Core.Bool.{true};
-ghost use mathlib.Core.List.{_++_};
 ghost use Prim.Native.Nat.{_+_, _-_, _*_, _≤_, _<_};
-ghost use lib.Dec.{ltb, leb};
-ghost use lib.ListN.{length, drop};
-ghost use Rattle.ground.specs.Choice.{pick};
+ghost use lib.Dec.{leb};
+ghost use lib.ListN.{length};
 ghost use Rattle.rota.specs.Inside.{Located};
 ghost use Rattle.rota.specs.RotaBytes.{rolesOf, rotaOf};
-ghost use Rattle.table.specs.TableBytes.{tableBytes};
-ghost use Rattle.derivation.specs.Rewriting.{sizeOf};
 ghost use Rattle.derivation.specs.Roles.{rewriteRoles};
 ghost use Rattle.derive.specs.Derive.{Room};
 ghost use Rattle.grid.specs.Grid.{Parted};
 ghost use Rattle.kinds.specs.Kinds.{Numbered};
 ghost use Rattle.counting.specs.Parts.{lengthWith, CountedTo, KeepRoom, Kept};
-ghost use Rattle.placing.specs.Parts.{HeaderFits, started};
+ghost use Rattle.placing.specs.Parts.{HeaderFits, started, placedArea};
 use counting::Count;
 use rota::Layout;
 
@@ -71,10 +67,7 @@ fn put_table(
         × Room n w (now masks) (now pairs) (now marks) (now links) × (end ≤ first + length (now found))
         × (keep ≡ true → KeepRoom (end - first) n (now pairs) (now marks)
         × (lengthWith (k .entries) (k .rows) ≤ length (now out) → Kept (now s) first (end - first) n (now found) (now pairs) (now marks))) ⌝ }
-    ensures { λ _. ⌜ now (out .exit)
-        ≡ pick (ltb (length (now (out .entry))) (sizeOf (rewriteRoles (rotaOf (now (s .entry))) first end))) (now (out .entry))
-        (tableBytes (rewriteRoles (rotaOf (now (s .entry))) first end)
-        ++ drop (sizeOf (rewriteRoles (rotaOf (now (s .entry))) first end)) (now (out .entry))) ⌝ }
+    ensures { λ _. ⌜ now (out .exit) ≡ placedArea (rewriteRoles (rotaOf (now (s .entry))) first end) (now (out .entry)) ⌝ }
 {
     let d = k.entries;
     let rows = k.rows;
@@ -127,13 +120,14 @@ fn all_fit(roles: usize, n: usize, pairs: usize, marks: usize) -> bool
 }
 
 // Counts the table of the roles from `first` on, up to `end`, of a rota that is read, divided and numbered, and writes it where it fits the area: the
-// counts, which are the table's or already too many for the area.
+// counts, which are the table's or already too many for the room. There may be more room to count to than the area has.
 pub fn place_table(
     s: &[u8],
     l: Layout,
     first: u8,
     end: u8,
     out: &mut [u8],
+    room: usize,
     eras: &[u32],
     ne: usize,
     cells: &[u32],
@@ -148,13 +142,11 @@ pub fn place_table(
     links: &mut [u16],
     w: usize,
 ) -> Count
-    requires { ⌜ Located (now s) l × (first ≤ end) × (end ≤ rolesOf (now s)) × Parted (now s) (now eras) ne (now cells) nc ⌝ }
+    requires { ⌜ Located (now s) l × (first ≤ end) × (end ≤ rolesOf (now s)) × Parted (now s) (now eras) ne (now cells) nc
+        × (length (now out) ≤ room) ⌝ }
     requires { ⌜ Numbered (now s) ne nc n (now kinds) (now lens) (now ends) (now masks) × Room n w (now masks) (now pairs) (now marks) (now links) ⌝ }
-    ensures { λ k. ⌜ CountedTo (rewriteRoles (rotaOf (now (s .entry))) first end) (length (now (out .entry))) k
-        × (now (out .exit)
-        ≡ pick (ltb (length (now (out .entry))) (sizeOf (rewriteRoles (rotaOf (now (s .entry))) first end))) (now (out .entry))
-        (tableBytes (rewriteRoles (rotaOf (now (s .entry))) first end)
-        ++ drop (sizeOf (rewriteRoles (rotaOf (now (s .entry))) first end)) (now (out .entry)))) ⌝ }
+    ensures { λ k. ⌜ CountedTo (rewriteRoles (rotaOf (now (s .entry))) first end) room k
+        × (now (out .exit) ≡ placedArea (rewriteRoles (rotaOf (now (s .entry))) first end) (now (out .entry))) ⌝ }
 {
     let mut found = [0usize; 32];
     let keep = all_fit((end - first) as usize, n, pairs.len(), marks.len());
@@ -168,7 +160,7 @@ pub fn place_table(
         ne,
         masks,
         n,
-        out.len(),
+        room,
         keep,
         &mut found,
         pairs,

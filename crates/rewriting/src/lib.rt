@@ -4,10 +4,11 @@ ghost use Prim.Native.Nat.{_*_, _≤_};
 ghost use lib.ListN.{length};
 ghost use Rattle.rota.specs.Inside.{Located};
 ghost use Rattle.rota.specs.RotaBytes.{rolesOf, rotaOf};
-ghost use Rattle.derivation.specs.Rewriting.{rewriteOutcome, areaAfter};
+ghost use Rattle.derivation.specs.Rewriting.{rewriteOutcome, sizeOutcome, areaAfter};
 ghost use Rattle.derivation.specs.Roles.{rewriteRoles};
 ghost use Rattle.grid.specs.Grid.{Parted};
-ghost use Rattle.area.specs.Parts.{placedOutcome, placedArea};
+ghost use Rattle.placing.specs.Parts.{placedArea};
+ghost use Rattle.area.specs.Parts.{placedOutcome};
 ghost use Rattle.area.specs.Answers.{writtenGiven};
 use area::Rewritten;
 use rota::Layout;
@@ -20,13 +21,15 @@ fn rewrite_small(
     first: u8,
     end: u8,
     out: &mut [u8],
+    room: usize,
     eras: &[u32],
     ne: usize,
     cells: &[u32],
     nc: usize,
 ) -> Rewritten
-    requires { ⌜ Located (now s) l × (first ≤ end) × (end ≤ rolesOf (now s)) × Parted (now s) (now eras) ne (now cells) nc × (ne * nc ≤ 128) × (nc ≤ 128) ⌝ }
-    ensures { λ r. ⌜ (writtenGiven r ≡ placedOutcome (rewriteRoles (rotaOf (now (s .entry))) first end) (length (now (out .entry))))
+    requires { ⌜ Located (now s) l × (first ≤ end) × (end ≤ rolesOf (now s)) × Parted (now s) (now eras) ne (now cells) nc
+        × (length (now out) ≤ room) × (ne * nc ≤ 128) × (nc ≤ 128) ⌝ }
+    ensures { λ r. ⌜ (writtenGiven r ≡ placedOutcome (rewriteRoles (rotaOf (now (s .entry))) first end) room)
         × (now (out .exit) ≡ placedArea (rewriteRoles (rotaOf (now (s .entry))) first end) (now (out .entry))) ⌝ }
 {
     let mut held = [0u64; 128];
@@ -43,6 +46,7 @@ fn rewrite_small(
         first,
         end,
         out,
+        room,
         eras,
         ne,
         cells,
@@ -65,13 +69,15 @@ fn rewrite_middle(
     first: u8,
     end: u8,
     out: &mut [u8],
+    room: usize,
     eras: &[u32],
     ne: usize,
     cells: &[u32],
     nc: usize,
 ) -> Rewritten
-    requires { ⌜ Located (now s) l × (first ≤ end) × (end ≤ rolesOf (now s)) × Parted (now s) (now eras) ne (now cells) nc × (ne * nc ≤ 4096) ⌝ }
-    ensures { λ r. ⌜ (writtenGiven r ≡ placedOutcome (rewriteRoles (rotaOf (now (s .entry))) first end) (length (now (out .entry))))
+    requires { ⌜ Located (now s) l × (first ≤ end) × (end ≤ rolesOf (now s)) × Parted (now s) (now eras) ne (now cells) nc
+        × (length (now out) ≤ room) × (ne * nc ≤ 4096) ⌝ }
+    ensures { λ r. ⌜ (writtenGiven r ≡ placedOutcome (rewriteRoles (rotaOf (now (s .entry))) first end) room)
         × (now (out .exit) ≡ placedArea (rewriteRoles (rotaOf (now (s .entry))) first end) (now (out .entry))) ⌝ }
 {
     let mut held = [0u64; 513];
@@ -88,6 +94,7 @@ fn rewrite_middle(
         first,
         end,
         out,
+        room,
         eras,
         ne,
         cells,
@@ -111,13 +118,15 @@ fn rewrite_large(
     first: u8,
     end: u8,
     out: &mut [u8],
+    room: usize,
     eras: &[u32],
     ne: usize,
     cells: &[u32],
     nc: usize,
 ) -> Rewritten
-    requires { ⌜ Located (now s) l × (first ≤ end) × (end ≤ rolesOf (now s)) × Parted (now s) (now eras) ne (now cells) nc ⌝ }
-    ensures { λ r. ⌜ (writtenGiven r ≡ placedOutcome (rewriteRoles (rotaOf (now (s .entry))) first end) (length (now (out .entry))))
+    requires { ⌜ Located (now s) l × (first ≤ end) × (end ≤ rolesOf (now s)) × Parted (now s) (now eras) ne (now cells) nc
+        × (length (now out) ≤ room) ⌝ }
+    ensures { λ r. ⌜ (writtenGiven r ≡ placedOutcome (rewriteRoles (rotaOf (now (s .entry))) first end) room)
         × (now (out .exit) ≡ placedArea (rewriteRoles (rotaOf (now (s .entry))) first end) (now (out .entry))) ⌝ }
 {
     let mut held = [0u64; 513];
@@ -134,6 +143,7 @@ fn rewrite_large(
         first,
         end,
         out,
+        room,
         eras,
         ne,
         cells,
@@ -157,25 +167,34 @@ fn rewrite_more(
     first: u8,
     end: u8,
     out: &mut [u8],
+    room: usize,
     eras: &[u32],
     ne: usize,
     cells: &[u32],
     nc: usize,
 ) -> Rewritten
-    requires { ⌜ Located (now s) l × (first ≤ end) × (end ≤ rolesOf (now s)) × Parted (now s) (now eras) ne (now cells) nc ⌝ }
-    ensures { λ r. ⌜ (writtenGiven r ≡ placedOutcome (rewriteRoles (rotaOf (now (s .entry))) first end) (length (now (out .entry))))
+    requires { ⌜ Located (now s) l × (first ≤ end) × (end ≤ rolesOf (now s)) × Parted (now s) (now eras) ne (now cells) nc
+        × (length (now out) ≤ room) ⌝ }
+    ensures { λ r. ⌜ (writtenGiven r ≡ placedOutcome (rewriteRoles (rotaOf (now (s .entry))) first end) room)
         × (now (out .exit) ≡ placedArea (rewriteRoles (rotaOf (now (s .entry))) first end) (now (out .entry))) ⌝ }
 {
     if ne * nc <= 4096 {
-        return rewrite_middle(s, l, first, end, out, eras, ne, cells, nc);
+        return rewrite_middle(s, l, first, end, out, room, eras, ne, cells, nc);
     }
-    rewrite_large(s, l, first, end, out, eras, ne, cells, nc)
+    rewrite_large(s, l, first, end, out, room, eras, ne, cells, nc)
 }
 
 // Rewrites the roles from `first` on, up to `end`, of a rota that is read.
-fn rewrite_located(s: &[u8], l: Layout, first: u8, end: u8, out: &mut [u8]) -> Rewritten
-    requires { ⌜ Located (now s) l × (first ≤ end) × (end ≤ rolesOf (now s)) ⌝ }
-    ensures { λ r. ⌜ (writtenGiven r ≡ placedOutcome (rewriteRoles (rotaOf (now (s .entry))) first end) (length (now (out .entry))))
+fn rewrite_located(
+    s: &[u8],
+    l: Layout,
+    first: u8,
+    end: u8,
+    out: &mut [u8],
+    room: usize,
+) -> Rewritten
+    requires { ⌜ Located (now s) l × (first ≤ end) × (end ≤ rolesOf (now s)) × (length (now out) ≤ room) ⌝ }
+    ensures { λ r. ⌜ (writtenGiven r ≡ placedOutcome (rewriteRoles (rotaOf (now (s .entry))) first end) room)
         × (now (out .exit) ≡ placedArea (rewriteRoles (rotaOf (now (s .entry))) first end) (now (out .entry))) ⌝ }
 {
     let division = grid::divide(s, l);
@@ -184,24 +203,42 @@ fn rewrite_located(s: &[u8], l: Layout, first: u8, end: u8, out: &mut [u8]) -> R
     let ne = division.era_count;
     let nc = division.cell_count;
     if 128 < nc {
-        return rewrite_more(s, l, first, end, out, &eras, ne, &cells, nc);
+        return rewrite_more(s, l, first, end, out, room, &eras, ne, &cells, nc);
     }
     if ne * nc <= 128 {
-        return rewrite_small(s, l, first, end, out, &eras, ne, &cells, nc);
+        return rewrite_small(s, l, first, end, out, room, &eras, ne, &cells, nc);
     }
-    rewrite_more(s, l, first, end, out, &eras, ne, &cells, nc)
+    rewrite_more(s, l, first, end, out, room, &eras, ne, &cells, nc)
 }
 
-// Rewrites a rota into an area: 1 to 12 and 52 as it is read, then 20 exactly where the table is longer than the area, which then stays as it came; else
-// the table at its start, with the numbers of its derived roles and rows and its length.
-pub fn rewrite(s: &[u8], out: &mut [u8]) -> Rewritten
-    ensures { λ r. ⌜ (writtenGiven r ≡ rewriteOutcome (now (s .entry)) (length (now (out .entry)))) × (now (out .exit) ≡ areaAfter (now (s .entry)) (now (out .entry))) ⌝ }
+// Rewrites a rota, counting to `room`: 1 to 12 and 52 as it is read, then 20 exactly where the table is longer than the room; else the numbers of its
+// derived roles and rows and its length. It is written at the start of the area where it fits, and the area stays as it came where it does not.
+fn rewrite_to(s: &[u8], out: &mut [u8], room: usize) -> Rewritten
+    requires { ⌜ length (now out) ≤ room ⌝ }
+    ensures { λ r. ⌜ (writtenGiven r ≡ rewriteOutcome (now (s .entry)) room) × (now (out .exit) ≡ areaAfter (now (s .entry)) (now (out .entry))) ⌝ }
 {
     match rota::locate(s) {
         LayoutAnswer::Refused(code) => Rewritten::Refused(code),
         LayoutAnswer::Accepted(l) => {
             let n = l.counts;
-            rewrite_located(s, l, 0, n.roles as u8, out)
+            rewrite_located(s, l, 0, n.roles as u8, out, room)
         }
     }
+}
+
+// Rewrites a rota into an area, whose length is the room.
+pub fn rewrite(s: &[u8], out: &mut [u8]) -> Rewritten
+    ensures { λ r. ⌜ (writtenGiven r ≡ rewriteOutcome (now (s .entry)) (length (now (out .entry)))) × (now (out .exit) ≡ areaAfter (now (s .entry)) (now (out .entry))) ⌝ }
+{
+    let room = out.len();
+    rewrite_to(s, out, room)
+}
+
+// How large the table of a rota is: what rewriting would tell, but never 20. It is counted with room for every table, and written nowhere, since no
+// table is of one byte.
+pub fn size(s: &[u8]) -> Rewritten
+    ensures { λ r. ⌜ writtenGiven r ≡ sizeOutcome (now (s .entry)) ⌝ }
+{
+    let mut area = [0u8; 1];
+    rewrite_to(s, &mut area, 35212336)
 }

@@ -14,7 +14,7 @@ ghost use Rattle.table.specs.TableRefusals.{tableJudged};
 ghost use Rattle.table.specs.Answers.{readOutcome as tableRead};
 ghost use Rattle.board.specs.Board.{boardTold, boardOutcome};
 ghost use Rattle.tidying.specs.Tidy.{tidyOutcome, areaTidied};
-ghost use Rattle.derivation.specs.Rewriting.{rewriteOutcome, areaAfter};
+ghost use Rattle.derivation.specs.Rewriting.{rewriteOutcome, sizeOutcome, areaAfter};
 ghost use Rattle.lent.specs.declared.Kind.the-variants as Kind;
 ghost use Rattle.page.specs.Page.{pageJudged, pageAfter};
 ghost use Rattle.machine.specs.Machine.{advance, «open», close, ask};
@@ -31,6 +31,14 @@ use told::TableTold;
 use told::TidiedTold;
 use told::Told;
 use told::WrittenTold;
+
+// The version, 1.0.0: the major one in millions, the minor one in thousands, and the patch.
+#[no_mangle]
+pub extern "C" fn softlode_version() -> u32
+    ensures { λ r. ⌜ r ≡ 1000000 ⌝ }
+{
+    1000000
+}
 
 #[no_mangle]
 pub extern "C" fn softlode_rota_read(s: &[u8]) -> RotaTold
@@ -60,6 +68,14 @@ pub extern "C" fn softlode_rewrite(s: &[u8], out: &mut [u8]) -> WrittenTold
     ensures { λ r. ⌜ (r ≡ writtenTold (rewriteOutcome (now (s .entry)) (length (now (out .entry))))) × (now (out .exit) ≡ areaAfter (now (s .entry)) (now (out .entry))) ⌝ }
 {
     told::tell_written(rewriting::rewrite(s, out))
+}
+
+// How large the table of a rota is, without an area.
+#[no_mangle]
+pub extern "C" fn softlode_rewrite_size(s: &[u8]) -> WrittenTold
+    ensures { λ r. ⌜ r ≡ writtenTold (sizeOutcome (now (s .entry))) ⌝ }
+{
+    told::tell_written(rewriting::size(s))
 }
 
 #[no_mangle]

@@ -195,8 +195,8 @@ fn next_use_times(bytes: &[u8], question: impl Fn(usize) -> Question) -> Times {
     )
 }
 
-/// Into an area of the table's size, beside both forms of the quick implementation, and into one of
-/// 64 KiB if that is too small for it.
+/// Into an area of the table's size, beside both forms of the quick implementation, into one of 64
+/// KiB if that is too small for it, and the size alone.
 fn rewrite(input: &Input, report: &mut Report) {
     let Some(Rewriting { rota, length, .. }) = &input.rewriting else { return };
     type Quick = fn(&[u8], &mut [u8]) -> Result<Written, Refusal>;
@@ -214,6 +214,14 @@ fn rewrite(input: &Input, report: &mut Report) {
     if *length > 65_536 {
         into("rewrite, 20 at 64 KiB", 65_536, rewriting::rewrite);
     }
+    let told = [
+        ffi::rewriting::size(rota).length as usize,
+        rewriting::size(rota).map_or(0, |told| told.length),
+    ];
+    assert_eq!(told, [*length; 2], "the two sizes");
+    let times =
+        time(|_| ffi::rewriting::size(black_box(rota)), |_| rewriting::size(black_box(rota)));
+    report.print("rewrite size", input.name, times);
 }
 
 /// Everyone is open, and time goes to the question's minute from the one before, or through all 400

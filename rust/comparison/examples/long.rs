@@ -25,9 +25,9 @@ const fn kind(name: &'static str, share: u64, compare: fn(&mut Case, &mut Tally)
     Kind { name, share, compare }
 }
 
-const KINDS: [Kind; 32] = [
+const KINDS: [Kind; 33] = [
     kind("rota well formed", 150, rota::well_formed),
-    kind("rota several faults", 160, rota::several_faults),
+    kind("rota several faults", 150, rota::several_faults),
     kind("rota damaged rows", 20, rota::damaged_rows),
     kind("rota any bytes", 50, rota::any_bytes),
     kind("table by hand", 100, table::by_hand),
@@ -47,6 +47,7 @@ const KINDS: [Kind; 32] = [
     kind("rewriting joined and unjoined", 2, rewriting::joined_and_unjoined),
     kind("rewriting unused hours", 7, rewriting::unused_hours),
     kind("rewriting damaged", 20, rewriting::damaged),
+    kind("rewriting sizes", 10, rewriting::sized),
     kind("service list", 10, service::list),
     kind("service list on a tidy rota", 2, service::list_on_a_tidy_rota),
     kind("service odd states", 20, service::odd_states),

@@ -6,7 +6,7 @@ use cases::case::{Case, Tally, cases, print, tallied};
 use cases::generate::{Sets, fine_rota, most_rows_rota, most_sets_rota};
 use cases::joining::{self, Worked};
 use cases::{data, generate, worst};
-use comparison::compare::rewriting::{self, Lent, compare, compare_areas};
+use comparison::compare::rewriting::{self, Lent, compare, compare_areas, compare_size};
 use comparison::expected::rewriting::Whole;
 use comparison::ffi;
 use comparison::ffi::rewriting::Rewritten;
@@ -40,6 +40,7 @@ fn small_rota() {
     let sizes = [194, 195, 196, 258, 259];
     let given = sizes.map(|size| ffi::rewriting::rewrite(&lent.bytes, &mut vec![0; size]));
     let written = Rewritten { refusal: 0, derived: 3, rows: 8, length: 195 };
+    assert_eq!(ffi::rewriting::size(&lent.bytes), written);
     let refused = Rewritten { refusal: 20, ..Rewritten::default() };
     assert_eq!(given, [refused, written, written, written, written]);
     assert_eq!(compare(&mut case, &mut tally, &lent, 1 << 20), 0);
@@ -303,6 +304,14 @@ fn damaged_rotas() {
     tallied("damaged_rotas", 3_000, rewriting::damaged).reached((0..=12).chain([20, 52]));
 }
 
+/// What is told without an area: each refusal of a rota, and never 20.
+#[test]
+fn sizes() {
+    let tally = tallied("sizes", 3_000, rewriting::sized);
+    tally.reached((0..=12).chain([52]));
+    assert_eq!(tally.reached_times(20), 0);
+}
+
 /// Every length of a rota's bytes, and every byte changed.
 #[test]
 fn every_length_and_byte() {
@@ -315,6 +324,7 @@ fn every_length_and_byte() {
         for len in 0..=longer.len() {
             let lent = Lent::new(longer[..len].to_vec());
             compare(case, &mut tally, &lent, lent.size());
+            compare_size(case, &mut tally, &lent);
         }
         for i in 0..whole.len() {
             for value in generate::changes(whole[i]) {
@@ -329,8 +339,8 @@ fn every_length_and_byte() {
     tally.reached([0, 1, 9, 20]);
 }
 
-/// A large rota into areas of its table's size and one less, and of 64 KiB, which is mostly too
-/// little for it.
+/// A large rota's size, and the rota into areas of that size and one less, and of 64 KiB, which is
+/// mostly too little for it.
 fn compare_fine(name: &'static str, rota: &Rota) -> Whole {
     let mut tally = Tally::new(name);
     let mut case = Case::new(name, 0);
@@ -340,6 +350,7 @@ fn compare_fine(name: &'static str, rota: &Rota) -> Whole {
     let refusal = compare(&mut case, &mut tally, &lent, 65_536);
     assert_eq!(refusal, if size > 65_536 { 20 } else { 0 });
     let in_64_kib = start.elapsed();
+    compare_size(&mut case, &mut tally, &lent);
     assert_eq!(compare(&mut case, &mut tally, &lent, size), 0);
     assert_eq!(compare(&mut case, &mut tally, &lent, size - 1), 20);
     let whole = lent.whole.expect("accepted");

@@ -16,6 +16,13 @@ pub struct Written {
     pub length: usize,
 }
 
+impl Written {
+    pub fn of(table: &Table) -> Written {
+        let (derived, rows) = (table.derived.len() as u32, table.rows.len() as u32);
+        Written { derived, rows, length: table::size(derived.into(), rows.into()) as usize }
+    }
+}
+
 /// Sorts, drops repeats, and gives each two neighbouring values.
 fn neighbours(mut values: Vec<u32>) -> Vec<(u32, u32)> {
     values.sort();
@@ -159,9 +166,10 @@ pub fn rewrite(bytes: &[u8], area: &mut [u8]) -> Result<Written, Refusal> {
     let out = table.encode();
     let place = area.get_mut(..out.len()).ok_or(20u32)?;
     place.copy_from_slice(&out);
-    Ok(Written {
-        derived: table.derived.len() as u32,
-        rows: table.rows.len() as u32,
-        length: out.len(),
-    })
+    Ok(Written::of(&table))
+}
+
+/// How large the table of a rota's bytes is; an area has no part in it.
+pub fn size(bytes: &[u8]) -> Result<Written, Refusal> {
+    Ok(Written::of(&table(&Rota::parse(bytes)?)))
 }

@@ -86,6 +86,8 @@ fn small_rota_needs_195_bytes() {
     assert!(area.iter().all(|&byte| byte == 0xa5), "a refusal writes nothing");
     assert_eq!(rewrite(&rota, &mut []), Err(20));
     assert_eq!(rewrite(&rota[..53], &mut []), Err(9), "the rota's refusals come first");
+    assert_eq!(rewriting::size(&rota), Ok(written), "the size is told without an area");
+    assert_eq!(rewriting::size(&rota[..53]), Err(9));
 }
 
 /// Runs of any length; but not over a cell without a minute, across eras, round the cycle's end, and

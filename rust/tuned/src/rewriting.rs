@@ -11,7 +11,7 @@ use reference::table::Row;
 use reference::{END, Refusal};
 
 use crate::rota::{self, Rota};
-use crate::table::{Entry, HEADER_SIZE, RowBytes, encode, entry, header, size};
+use crate::table::{self, Entry, HEADER_SIZE, RowBytes, encode, entry, header};
 
 /// All minutes, or the cycle, divided into eras or cells.
 struct Parts {
@@ -421,18 +421,29 @@ pub fn rewrite_twice(bytes: &[u8], area: &mut [u8]) -> Result<Written, Refusal> 
     rewrite_with::<false>(bytes, area)
 }
 
-fn rewrite_with<const KEEPS: bool>(bytes: &[u8], area: &mut [u8]) -> Result<Written, Refusal> {
+/// How large the table of a rota's bytes is: it is counted, and of no role is anything kept.
+pub fn size(bytes: &[u8]) -> Result<Written, Refusal> {
     let rota = Rota::read(bytes)?;
+    let fields = Fields::new(&rota);
+    let mut deriver = Deriver::new(&fields.sets, rota.hours);
+    let (written, _) = count::<false>(&fields, &roles(&rota), &mut deriver, usize::MAX)?;
+    Ok(written)
+}
+
+/// Counts the table to an area of so many bytes, with what each role is found to have.
+fn count<const KEEPS: bool>(
+    fields: &Fields,
+    roles: &[Role],
+    deriver: &mut Deriver,
+    area: usize,
+) -> Result<(Written, Vec<Found>), Refusal> {
     let left = |entries: usize, rows: usize| {
-        area.len().checked_sub(size(entries as u64, rows as u64) as usize).ok_or(20u32)
+        area.checked_sub(table::size(entries as u64, rows as u64) as usize).ok_or(20u32)
     };
     let mut room = left(0, 0)?;
-    let fields = Fields::new(&rota);
-    let roles = roles(&rota);
-    let mut deriver = Deriver::new(&fields.sets, rota.hours);
     let (mut derived, mut rows) = (0, 0);
     let mut all_found = Vec::with_capacity(roles.len());
-    for role in &roles {
+    for role in roles {
         if !KEEPS {
             deriver.forget();
         }
@@ -445,11 +456,21 @@ fn rewrite_with<const KEEPS: bool>(bytes: &[u8], area: &mut [u8]) -> Result<Writ
         room = left(derived, rows)?;
         all_found.push(found);
     }
+    let written = Written { derived: derived as u32, rows: rows as u32, length: area - room };
+    Ok((written, all_found))
+}
 
-    let length = area.len() - room;
+fn rewrite_with<const KEEPS: bool>(bytes: &[u8], area: &mut [u8]) -> Result<Written, Refusal> {
+    let rota = Rota::read(bytes)?;
+    let fields = Fields::new(&rota);
+    let roles = roles(&rota);
+    let mut deriver = Deriver::new(&fields.sets, rota.hours);
+    let (written, all_found) = count::<KEEPS>(&fields, &roles, &mut deriver, area.len())?;
+
+    let Written { derived, rows, length } = written;
     let (head, body) = area[..length].split_at_mut(HEADER_SIZE);
-    head.copy_from_slice(&header(&rota, derived as u32, rows as u32));
-    let (entry_place, row_place) = body.split_at_mut(derived * size_of::<Entry>());
+    head.copy_from_slice(&header(&rota, derived, rows));
+    let (entry_place, row_place) = body.split_at_mut(derived as usize * size_of::<Entry>());
     let ((entry_place, _), (row_place, _)) =
         (entry_place.as_chunks_mut(), row_place.as_chunks_mut());
     let (mut entry_places, mut row_places) = (entry_place.iter_mut(), row_place.iter_mut());
@@ -469,5 +490,5 @@ fn rewrite_with<const KEEPS: bool>(bytes: &[u8], area: &mut [u8]) -> Result<Writ
         }
         first += sets.len() as u32;
     }
-    Ok(Written { derived: derived as u32, rows: rows as u32, length })
+    Ok(written)
 }

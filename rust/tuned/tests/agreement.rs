@@ -312,6 +312,8 @@ fn compare_rewritten(case: &mut Case, tally: &mut Tally, rota: &[u8]) {
         let bytes = table.encode();
         (rewriting::Written { derived, rows, length: bytes.len() }, bytes)
     });
+    let told = whole.as_ref().map(|&(written, _)| written).map_err(|&refusal| refusal);
+    case.same(tuned::rewriting::size(rota), told, rota, "size");
     let size = whole.as_ref().map_or(16, |(_, bytes)| bytes.len());
     let any = case.random.below(2 * size as u32) as usize;
     for size in [size, size - 1, size + 1, 0, any, unjoined_size, unjoined_size - 1] {

@@ -2,7 +2,7 @@ use native.Mathlib.Omega.{arith}
 use mathlib.Core.Path.{refl}
 use Rattle.derive.proofs.ScratchLaws.{room-kept}
 use Rattle.roles.proofs.LocatedLaws.{roles-are}
-use Rattle.placing.proofs.RoomLaws.{laid, keep-room}
+use Rattle.placing.proofs.RoomLaws.{laid, keep-room, counted-within}
 use borrow.Author.Needs.{needs}
 use Rattle.placing.proofs.place_table.Statement.{statement}
 use Rattle.placing.proofs.place_table.Tie as tie
@@ -40,13 +40,13 @@ put-table-requires c κs =
     let k = c .before .before .before .before .before .before .before .before .before .before .before .before .count-all in
     let kp = k .kept .1 .1 .1 .1 .1 .1 .1 .1 .1 .1 .1 .1 .0 in
     let km = k .kept .1 .1 .1 .1 .1 .1 .1 .1 .1 .1 .1 .1 .1 .0 in (
-      (p .0 .0, p .0 .1, p .0 .2, k .ensures .0),
+      (p .0 .0, p .0 .1, p .0 .2, counted-within (p .0 .4) (k .ensures .0)),
       (
         p .0 .3,
         p .1 .0,
         room-kept (p .1 .1) kp km (k .kept .1 .1 .1 .1 .1 .1 .1 .1 .1 .1 .1 .1 .1 .1 .0),
         omega (arith, roles-are (a .s .now) (a .l) (p .0 .0), p .0 .2, k .kept .1 .1 .1 .1 .1 .1 .1 .1 .1 .1 .1 .0),
-        λ e. (keep-room kp km (c .before .before .before .before .before .before .before .before .before .before .before .before .before .before .before .before .before .all-fit .ensures e), k .ensures .1 e),
+        λ e. (keep-room kp km (c .before .before .before .before .before .before .before .before .before .before .before .before .before .before .before .before .before .all-fit .ensures e), λ h. k .ensures .1 e (omega (arith, h, p .0 .4))),
       ),
     )
 

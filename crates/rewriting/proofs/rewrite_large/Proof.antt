@@ -30,7 +30,7 @@ slice-aggregate-rewrite-with-8 : tie.Need-slice-aggregate-rewrite-with-8
 slice-aggregate-rewrite-with-8 c = search needs
 
 rewrite-with-requires : tie.Need-rewrite-with-requires
-rewrite-with-requires c κs = let p = c .before .before .before .before .before .before .before .before .before .before .before .before .before .pre in ((p .0, p .1, p .2, p .3), scratch-of {m = 33345} {h = 513} (fields-few (p .3)) (fields-few (p .3)) (p .3 .few-cells) (omega arith) (omega arith) (omega arith) (omega arith) (omega arith) (omega arith) (omega arith) (omega arith) (omega arith) (omega arith))
+rewrite-with-requires c κs = let p = c .before .before .before .before .before .before .before .before .before .before .before .before .before .pre in ((p .0, p .1, p .2, p .3, p .4), scratch-of {m = 33345} {h = 513} (fields-few (p .3)) (fields-few (p .3)) (p .3 .few-cells) (omega arith) (omega arith) (omega arith) (omega arith) (omega arith) (omega arith) (omega arith) (omega arith) (omega arith) (omega arith))
 
 same-length : tie.Need-same-length
 same-length c = search needs

@@ -29,7 +29,7 @@ slice-aggregate-rewrite-with-8 : tie.Need-slice-aggregate-rewrite-with-8
 slice-aggregate-rewrite-with-8 c = search needs
 
 rewrite-with-requires : tie.Need-rewrite-with-requires
-rewrite-with-requires c κs = let p = c .before .before .before .before .before .before .before .before .before .before .before .before .before .pre in ((p .0, p .1, p .2, p .3), scratch-of {m = 4096} {h = 513} (omega (arith, p .4)) (p .4) (p .3 .few-cells) (omega arith) (omega arith) (omega arith) (omega arith) (omega arith) (omega arith) (omega arith) (omega arith) (omega arith) (omega arith))
+rewrite-with-requires c κs = let p = c .before .before .before .before .before .before .before .before .before .before .before .before .before .pre in ((p .0, p .1, p .2, p .3, p .4), scratch-of {m = 4096} {h = 513} (omega (arith, p .5)) (p .5) (p .3 .few-cells) (omega arith) (omega arith) (omega arith) (omega arith) (omega arith) (omega arith) (omega arith) (omega arith) (omega arith) (omega arith))
 
 same-length : tie.Need-same-length
 same-length c = search needs

@@ -51,9 +51,27 @@ pub fn compare(case: &mut Case, tally: &mut Tally, lent: &Lent, size: usize) -> 
     refusal
 }
 
-/// Areas of exactly the size, one byte less, one more, none, much larger, one that is too small by
-/// any amount, and where rows are joined, one byte less than they would need unjoined.
+/// The size that is told. By the proved code alone: a rewriting tells the same in an area of that
+/// size, one byte more, and many more, and 20 with one byte less.
+pub fn compare_size(case: &mut Case, tally: &mut Tally, lent: &Lent) {
+    let told = ffi::rewriting::size(&lent.bytes);
+    case.same(told, expected::rewriting::size(&lent.whole), &lent.bytes, "size");
+    tally.add(told.refusal);
+    let into = |size: u64| ffi::rewriting::rewrite(&lent.bytes, &mut vec![0; size as usize]);
+    let many = u64::from(case.random.between(2, 100_000));
+    for more in [0, 1, many] {
+        case.same(into(told.length + more), told, &lent.bytes, ("as the size tells", more));
+    }
+    if told.refusal == 0 {
+        let less = Rewritten { refusal: 20, ..Rewritten::default() };
+        case.same(into(told.length - 1), less, &lent.bytes, "one byte less than the size");
+    }
+}
+
+/// The size, and areas of exactly that, one byte less, one more, none, much larger, one that is too
+/// small by any amount, and where rows are joined, one byte less than they would need unjoined.
 pub fn compare_areas(case: &mut Case, tally: &mut Tally, lent: &Lent) {
+    compare_size(case, tally, lent);
     let size = lent.size();
     let larger = size + case.random.between(2, 5_000) as usize;
     let smaller = case.random.below(size as u32) as usize;
@@ -102,6 +120,16 @@ pub fn unused_hours(case: &mut Case, tally: &mut Tally) {
     let (before, lent) = (Lent::new(rota.encode()), Lent::new(with_unused.encode()));
     tally.count_if(before.size() < lent.size(), "a table made longer");
     compare_areas(case, tally, &lent);
+}
+
+/// The size of any rota, whole or damaged.
+pub fn sized(case: &mut Case, tally: &mut Tally) {
+    let rota = some_rota(&mut case.random, 8);
+    let bytes = match case.random.below(4) {
+        0 => rota.encode(),
+        _ => generate::damaged_rota(&mut case.random, &rota),
+    };
+    compare_size(case, tally, &Lent::new(bytes));
 }
 
 /// The rota's refusals come before 20, and leave the area whole.

@@ -23,23 +23,30 @@ pub fn whole(rota: &[u8]) -> Result<Whole, Refusal> {
     Ok(Whole { derived, rows, bytes: table.encode(), table, unjoined })
 }
 
+fn refused(refusal: Refusal) -> Rewritten {
+    Rewritten { refusal, ..Rewritten::default() }
+}
+
+/// The rota's refusal, or what the table comes to.
+pub fn size(whole: &Result<Whole, Refusal>) -> Rewritten {
+    match whole {
+        Err(refusal) => refused(*refusal),
+        Ok(whole) => Rewritten {
+            refusal: 0,
+            derived: whole.derived,
+            rows: whole.rows,
+            length: whole.bytes.len() as u64,
+        },
+    }
+}
+
 /// The rota's refusal, or 20, or the table at the area's start; all other bytes stay.
 pub fn rewrite(whole: &Result<Whole, Refusal>, area: &mut [u8]) -> Rewritten {
-    let refused = |refusal| Rewritten { refusal, ..Rewritten::default() };
-    let whole = match whole {
-        Err(refusal) => return refused(*refusal),
-        Ok(whole) => whole,
-    };
-    match area.get_mut(..whole.bytes.len()) {
-        None => refused(20),
-        Some(place) => {
-            place.copy_from_slice(&whole.bytes);
-            Rewritten {
-                refusal: 0,
-                derived: whole.derived,
-                rows: whole.rows,
-                length: whole.bytes.len() as u64,
-            }
+    if let Ok(Whole { bytes, .. }) = whole {
+        match area.get_mut(..bytes.len()) {
+            None => return refused(20),
+            Some(place) => place.copy_from_slice(bytes),
         }
     }
+    size(whole)
 }
