@@ -116,14 +116,15 @@ fn first_fault(bytes: &[u8]) -> Result<(), Fault> {
     let end = right_rows_at + 3 * right_rows as usize;
     if length != end {
         let rows = volunteer_rows + right_rows;
+        let (byte, how) = if length < end { (length, "ends") } else { (end, "goes on") };
         let what = format!(
-            "the file ends here, but by its counts it has {end} bytes: {roles_at} before the roles, {roles} for {}, \
-             {} for {}",
+            "the file {how} here, but by its counts it has {end} bytes: {roles_at} before the roles, \
+             {roles} for {}, {} for {}",
             counted(roles, "role"),
             3 * rows,
             counted(rows, "row")
         );
-        return fault(9, Part::File, length, what);
+        return fault(9, Part::File, byte, what);
     }
     for (role, at) in (roles_at..volunteer_rows_at).enumerate() {
         if let Some(what) = judge.hours_fault(at) {
@@ -245,9 +246,8 @@ impl Judge<'_> {
             }
             if end > cycle.0 {
                 let what = format!(
-                    "offset {offset} and length {length} end at {end}, past the cycle of {} ({})",
-                    counted(cycle.0, "minute"),
-                    cycle.words()
+                    "offset {offset} and length {length} end at minute {end}, past the cycle of {}",
+                    counted(cycle.0, "minute")
                 );
                 return fault(8, part, at, what);
             }
