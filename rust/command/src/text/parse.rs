@@ -232,7 +232,7 @@ impl<'a> Reader<'a> {
             UNITS.into_iter().find(|&(unit, _)| is(unit))
         };
         let Some((_, minutes)) = known(word) else {
-            let hint = did_you_mean(&word.text, ["minutes", "hours", "days", "weeks"]);
+            let hint = did_you_mean(&word.text, UNITS.map(|(unit, _)| unit));
             return Err(unit.here(unit.expected("minutes, hours, days or weeks").what + &hint));
         };
         let length = u64::from(count) * u64::from(minutes);
@@ -324,21 +324,19 @@ impl<'a> Reader<'a> {
         cursor.expect(&["dates", "from"])?;
         let begin = when::read_date(cursor, Edge::Begin)?;
         cursor.expect(&["to"])?;
-        let here = cursor.clone();
+        let mut here = cursor.clone();
         let end = if cursor.take("the") {
             cursor.expect(&["end", "of", "2400"])?;
             when::END
         } else if cursor.take("before") {
+            here = cursor.clone();
             when::read_date(cursor, Edge::End)?
         } else {
             return Err(cursor.expected("before and a date, or the end of 2400,"));
         };
         if begin >= end {
-            let what = format!(
-                "the dates end at {}, not after they begin, at {}",
-                when::date(end),
-                when::date(begin)
-            );
+            let (begin, end) = (when::date(begin), when::date(end));
+            let what = format!("the dates end at {end}, not after they begin, at {begin}");
             return Err(here.here(what));
         }
         hours.dates = Some((begin, end));
