@@ -180,6 +180,11 @@ fn call(call: &str, lent: Lent, record: &mut Service) -> Option<String> {
             assert!(written.is_ok() || area.iter().all(|&byte| byte == 0xa5), "{call}");
             written
         }
+        ("size", Lent::Rota(bytes)) => {
+            Rota::read(bytes).and_then(|rota| rota.table_size()).map(|size| {
+                format!("{} derived roles, {} rows, {} bytes", size.derived, size.rows, size.length)
+            })
+        }
         ("next use", Lent::Table(bytes)) => Table::read(bytes)
             .and_then(|table| table.next_use(n[0], n[1], n[2]))
             .map(|next| next.map_or("none".into(), |minute| format!("minute {minute}"))),
@@ -195,7 +200,7 @@ fn call(call: &str, lent: Lent, record: &mut Service) -> Option<String> {
                 told
             })
         }
-        ("tidy" | "rewrite" | "next use" | "board", _) => return None,
+        ("tidy" | "rewrite" | "size" | "next use" | "board", _) => return None,
         _ => panic!("no such call: {call}"),
     };
     Some(told.unwrap_or_else(|refusal| format!("refused {}", refusal.number())))
