@@ -14,6 +14,7 @@
 #include <stdio.h>
 #include <stdlib.h>
 #include <string.h>
+#include <sys/resource.h>
 #include <sys/wait.h>
 #include <time.h>
 #include <unistd.h>
@@ -53,7 +54,7 @@ static enum sight judge_clock(const softlode_service *service, softlode_minute_n
     return shown.minute - service->now <= JUMP_AHEAD ? ADVANCE : CALL_SOMEBODY;
 }
 
-/* Reads a file of at most `limit` bytes to memory; one byte more says that it is longer. -1 where it cannot be read. */
+/* Reads a file of at most `limit` bytes to memory that has room for one more, which says that the file is longer. -1 where it cannot be read. */
 static long load(const char *name, uint8_t *bytes, size_t limit) {
     FILE *file = fopen(name, "rb");
     if (file == NULL) return -1;
@@ -274,20 +275,27 @@ static void versions(void) {
     EXPECT(softlode_version() >= SOFTLODE_VERSION);
 }
 
-/* Each half hour of 2024: by UTC and an offset half an hour passes each time; with summer time an hour is missing and another comes twice. */
-static void clock_without_summer_time(void) {
-    time_t begin = 1704067200; /* 1 January 2024, 00:00 UTC */
-    unsigned missing = 0, back = 0;
-    uint32_t first = minute_at(begin, HOUR).minute, local = 0;
-    EXPECT(first == softlode_minute(2024, 1, 1, 1, 0).minute);
+static const time_t year_2024 = 1704067200; /* 1 January 2024, 00:00 UTC */
+
+/* What a clock with the summer time of Central Europe shows. */
+static struct tm on_the_wall(time_t seconds) {
+    struct tm tm;
     EXPECT(setenv("TZ", "CET-1CEST,M3.5.0,M10.5.0/3", 1) == 0);
     tzset();
+    EXPECT(localtime_r(&seconds, &tm) != NULL);
+    return tm;
+}
+
+/* Each half hour of 2024: by UTC and an offset half an hour passes each time; with summer time an hour is missing and another comes twice. */
+static void clock_without_summer_time(void) {
+    unsigned missing = 0, back = 0;
+    uint32_t first = minute_at(year_2024, HOUR).minute, local = 0;
+    EXPECT(first == softlode_minute(2024, 1, 1, 1, 0).minute);
     start(first - HOUR);
     for (uint32_t k = 0; k < 366 * 48; k++) {
-        time_t seconds = begin + 1800 * (time_t)k;
-        struct tm tm;
+        time_t seconds = year_2024 + 1800 * (time_t)k;
+        struct tm tm = on_the_wall(seconds);
         EXPECT(minute_at(seconds, HOUR).minute == first + 30 * k);
-        EXPECT(localtime_r(&seconds, &tm) != NULL);
         uint32_t shown = softlode_minute(tm.tm_year + 1900, tm.tm_mon + 1, tm.tm_mday, tm.tm_hour, tm.tm_min).minute;
         if (k > 0 && shown == local + 90) missing++;
         uint32_t refusal = advance(shown).refusal;
@@ -299,6 +307,25 @@ static void clock_without_summer_time(void) {
     EXPECT(minute_at(0, 0).refusal == SOFTLODE_NO_SUCH_DATE);
     EXPECT(minute_at((time_t)1 << 40, 0).refusal == SOFTLODE_NO_SUCH_DATE);
     EXPECT(minute_at((time_t)1 << 62, 0).refusal == SOFTLODE_NO_SUCH_DATE);
+}
+
+/* Open from 9 to 18 by the clock on the wall, by three hours records: standard time to the end of March, an hour earlier in summer, and after it. */
+static void summer_has_its_own_hours(void) {
+    uint8_t rota[SOFTLODE_LARGEST_ROTA], *at = rota;
+    uint32_t spring = softlode_minute(2024, 3, 31, 2, 0).minute, autumn = softlode_minute(2024, 10, 27, 2, 0).minute;
+    const uint32_t records[3][3] = {{0, spring, 9 * HOUR}, {spring, autumn, 8 * HOUR}, {autumn, SOFTLODE_LAST_MINUTE + 1, 9 * HOUR}};
+    put(&at, 2, 1), put(&at, 2, DAY), put(&at, 1, 3), put(&at, 1, 1), put(&at, 1, 1), put(&at, 1, 1), put(&at, 2, 3), put(&at, 2, 1);
+    for (int h = 0; h < 3; h++)
+        put(&at, 4, records[h][0]), put(&at, 4, records[h][1]), put(&at, 2, 1), put(&at, 2, records[h][2]), put(&at, 2, 9 * HOUR);
+    put(&at, 1, 255);
+    for (uint32_t h = 0; h < 3; h++) put(&at, 1, 0), put(&at, 1, 0), put(&at, 1, h);
+    put(&at, 1, 0), put(&at, 1, 0), put(&at, 1, 255);
+    for (uint32_t k = 0; k < 366 * 48; k++) {
+        time_t seconds = year_2024 + 1800 * (time_t)k;
+        softlode_told told = softlode_rota_question(rota, (size_t)(at - rota), 0, 0, minute_at(seconds, HOUR).minute);
+        int hour = on_the_wall(seconds).tm_hour;
+        EXPECT(told.refusal == 0 && told.yes == (hour >= 9 && hour < 18));
+    }
 }
 
 /* The clock steps back by seven minutes: 41 until it has caught up, the record stays, and asks are answered at its minute. */
@@ -542,28 +569,36 @@ static void area_as_long_as_the_table(void) {
     EXPECT(softlode_rewrite_size(week, week_length - 1).refusal == SOFTLODE_ROTA_LENGTH);
 }
 
-static void *rewrite_full(void *with) {
-    *(uint32_t *)with = take_rota(&archive, full, full_length, 0, same);
+/* A rota to be taken in on another thread, and what it is refused with. */
+struct taking {
+    const uint8_t *rota;
+    size_t length;
+    uint32_t refusal;
+};
+
+static void *take(void *with) {
+    struct taking *taking = with;
+    taking->refusal = take_rota(&archive, taking->rota, taking->length, 0, same);
     return NULL;
 }
 
-static void *rewrite_week(void *with) {
-    *(uint32_t *)with = take_rota(&archive, week, week_length, 0, same);
-    return NULL;
-}
-
-/* A rewriting on a thread of 2 MiB ends well, whatever the rota; on one of 256 KiB a full rota ends the process, though the weekly one does not. */
+/* A rewriting on a thread of 2 MiB ends well, whatever the rota; on one of 256 KiB eight hours records are enough to end the process, though the
+ * weekly rota passes. */
 static void rewriting_needs_stack(void) {
-    uint32_t refusal = 1;
+    uint8_t eight[SOFTLODE_LARGEST_ROTA];
+    struct taking largest = {full, full_length, 1}, weekly = {week, week_length, 1};
+    struct taking ending = {eight, make_rota(eight, 8, 1, 4, 1, 4, 4), 1};
     start(0);
-    EXPECT(on_large_stack(rewrite_full, &refusal, REWRITING_STACK) == 0 && refusal == 0);
-    EXPECT(on_large_stack(rewrite_week, &refusal, 256 << 10) == 0 && refusal == 0);
+    EXPECT(on_large_stack(take, &largest, REWRITING_STACK) == 0 && largest.refusal == 0);
+    EXPECT(on_large_stack(take, &ending, REWRITING_STACK) == 0 && ending.refusal == 0);
+    EXPECT(on_large_stack(take, &weekly, 256 << 10) == 0 && weekly.refusal == 0);
     fflush(stdout);
     pid_t child = fork();
     EXPECT(child >= 0);
     if (child == 0) {
         signal(SIGSEGV, SIG_DFL);
-        on_large_stack(rewrite_full, &refusal, 256 << 10);
+        setrlimit(RLIMIT_CORE, &(struct rlimit){0, 0});
+        on_large_stack(take, &ending, 256 << 10);
         _exit(0);
     }
     int status = 0;
@@ -753,6 +788,7 @@ static const struct {
 } tests[] = {
     TEST(versions),
     TEST(clock_without_summer_time),
+    TEST(summer_has_its_own_hours),
     TEST(clock_steps_back),
     TEST(clock_jumps_ahead),
     TEST(asks_are_as_old_as_the_record),
