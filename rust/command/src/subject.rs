@@ -29,6 +29,11 @@ impl Subject {
     /// Reads the first argument of a call.
     pub fn read(call: &Call, io: &mut Io) -> Result<Subject, Failure> {
         let place = Place::of(&call.arguments[0]);
+        if place == Place::Standard && call.names.as_deref().map(Place::of) == Some(Place::Standard)
+        {
+            let what = "standard input cannot be both a rota and its names";
+            return Err(Failure::Wrong(what.into()));
+        }
         let bytes = place.read_lent(io)?;
         Ok(Subject { place, bytes })
     }
@@ -106,9 +111,6 @@ fn find_names(
             None => return Ok(None),
         },
     };
-    if (&file, place) == (&Place::Standard, &Place::Standard) {
-        return Err(Failure::Wrong("standard input cannot be both a rota and its names".into()));
-    }
     let bytes = file.read_text(io)?;
     let names = words::text(&bytes).and_then(NamesFile::parse);
     let names =
