@@ -55,13 +55,8 @@ fn compare(case: &Case, lent: Lent, table: &Table, question: [u32; 3], tally: &m
     case.same(told("ask", &both), ask, bytes, (question, "ask"));
     let next = match table.next_use(volunteer, right, minute) {
         Ok(Some(next)) => {
-            let next = date(next).unwrap();
-            (
-                0,
-                format!(
-                    "{next}: {subject} use right {right} then, and not before, from {when} on{by}\n"
-                ),
-            )
+            let (next, first) = (date(next).unwrap(), "the first minute from");
+            (0, format!("{next}: {first} {when} on at which {subject} use right {right}{by}\n"))
         }
         Ok(None) => (
             0,
@@ -197,7 +192,7 @@ fn names_are_taken_and_shown() {
         (
             vec!["next", "5", "8", "2024-02-26 09:00"],
             0,
-            "Sun 2024-03-03 14:00: volunteer 5 may discard a record (8) then, and not before, from Mon 2024-02-26 09:00 on\n",
+            "Sun 2024-03-03 14:00: the first minute from Mon 2024-02-26 09:00 on at which volunteer 5 may discard a record (8)\n",
         ),
         (
             vec!["next", "coordinator", "8", "0"],

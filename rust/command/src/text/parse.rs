@@ -46,13 +46,13 @@ impl From<Complaint> for Unpacked {
 
 /// The lines of a text that say each part of the rota.
 #[derive(Clone, Debug, Default)]
-pub struct Lines {
-    pub cycle: usize,
+struct Lines {
+    cycle: usize,
     /// The line of each record, and those of its intervals.
-    pub hours: Vec<(usize, Vec<usize>)>,
-    pub roles: Vec<usize>,
-    pub volunteer_rows: Vec<usize>,
-    pub right_rows: Vec<usize>,
+    hours: Vec<(usize, Vec<usize>)>,
+    roles: Vec<usize>,
+    volunteer_rows: Vec<usize>,
+    right_rows: Vec<usize>,
 }
 
 impl Lines {
@@ -255,7 +255,7 @@ impl<'a> Reader<'a> {
         limit: u32,
     ) -> Result<u32, Complaint> {
         let here = cursor.clone();
-        let number = cursor.number(&format!("the number of the {}", kind.word()))?;
+        let number = cursor.number(format_args!("the number of the {}", kind.word()))?;
         if number != next {
             let why = match next {
                 0 => "the numbers begin with 0".to_string(),
@@ -415,7 +415,9 @@ impl<'a> Reader<'a> {
             let subject = reference(cursor, kind, line)?;
             let verb = verb(kind);
             if !cursor.take(verb) {
-                return Err(cursor.expected(&format!("a {} {verb} a role; {verb}", kind.word())));
+                return Err(
+                    cursor.expected(format_args!("a {} {verb} a role; {verb}", kind.word()))
+                );
             }
             return self.row(kind, subject, cursor, line);
         }
@@ -445,7 +447,7 @@ impl<'a> Reader<'a> {
                 let hint = did_you_mean(&first.text, STATEMENTS);
                 if hint.is_empty() {
                     return Err(
-                        after.expected(&format!("is or to after the name {}", first.shown()))
+                        after.expected(format_args!("is or to after the name {}", first.shown()))
                     );
                 }
                 return Err(cursor.here(format!("unknown word {}{hint}", first.shown())));
@@ -503,8 +505,8 @@ impl<'a> Reader<'a> {
                 Target::Name(name) => self.names.number(kind, name),
                 Target::Number(number) if number < count => Ok(number),
                 Target::Number(number) => Err(format!(
-                    "there is no {} {number}: the text has {}",
-                    kind.word(),
+                    "{} {number}: the text has {}",
+                    kind.there_is_no(),
                     kind.counted(count)
                 )),
             };
@@ -561,9 +563,9 @@ fn reference<'a>(
     let word = kind.word();
     let column = cursor.peek().map_or(line.end, |word| word.column);
     let target = if cursor.take(word) {
-        Target::Number(cursor.number(&format!("the number of the {word}"))?)
+        Target::Number(cursor.number(format_args!("the number of the {word}"))?)
     } else if cursor.peek().is_none() {
-        return Err(cursor.expected(&format!("a name, or {word} and a number,")));
+        return Err(cursor.expected(format_args!("a name, or {word} and a number,")));
     } else {
         Target::Name(name(cursor)?)
     };
