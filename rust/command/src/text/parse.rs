@@ -58,25 +58,16 @@ struct Lines {
 impl Lines {
     /// The line of a part, and that of the one before it of its kind.
     fn of(&self, part: Part) -> Option<(usize, Option<usize>)> {
-        let lines = match part {
+        let (lines, number) = match part {
             Part::Header | Part::File => return Some((self.cycle, None)),
             Part::Hours { record } => return Some((self.hours.get(record)?.0, None)),
-            Part::Pair { record, .. } => &self.hours.get(record)?.1,
-            Part::Role(_) => &self.roles,
-            Part::VolunteerRow(_) => &self.volunteer_rows,
-            Part::RightRow(_) => &self.right_rows,
+            Part::Pair { record, pair } => (&self.hours.get(record)?.1, pair),
+            Part::Role(number) => (&self.roles, number),
+            Part::VolunteerRow(number) => (&self.volunteer_rows, number),
+            Part::RightRow(number) => (&self.right_rows, number),
         };
-        let (Part::Pair { pair: number, .. }
-        | Part::Role(number)
-        | Part::VolunteerRow(number)
-        | Part::RightRow(number)) = part
-        else {
-            return None;
-        };
-        Some((
-            *lines.get(number)?,
-            number.checked_sub(1).and_then(|before| lines.get(before).copied()),
-        ))
+        let before = number.checked_sub(1).and_then(|before| lines.get(before).copied());
+        Some((*lines.get(number)?, before))
     }
 }
 
