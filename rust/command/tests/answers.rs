@@ -311,3 +311,20 @@ fn refused_bytes() {
         assert!(ran.status == 1 && ran.complaints.starts_with(&told), "{}", ran.complaints);
     }
 }
+
+/// One byte more than the longest rota has, or than a table's header says, is one too many, though
+/// no more than that is read.
+#[test]
+fn one_byte_too_many() {
+    let rota = generate::rota_of(&mut Case::new("longest", 0).random, &generate::LIMITS).encode();
+    let table = std::fs::read(data("week.table")).unwrap();
+    for (words, bytes, number) in [(&["check"][..], rota, 9), (&["list"], table, 25)] {
+        assert_eq!(asked(words, &bytes).status, 0);
+        for more in [1, 2, 100_000] {
+            let ran = asked(words, &[bytes.as_slice(), &vec![0; more]].concat());
+            assert_eq!(ran.status, 1);
+            let told = ran.text().to_string() + &ran.complaints;
+            assert!(told.contains(&format!("refused {number}: ")), "{told}");
+        }
+    }
+}
