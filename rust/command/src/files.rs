@@ -41,7 +41,7 @@ impl Source {
         }
     }
 
-    /// Reads up to so many bytes.
+    /// Reads it by this function, which may stop before its end.
     pub fn read(
         &self,
         io: &mut Io,

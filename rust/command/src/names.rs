@@ -319,7 +319,7 @@ impl NamesFile {
             if let Some((number, name)) = last.filter(|&(number, _)| number >= count) {
                 let (word, name) = (kind.word(), spelled(name));
                 return Err(format!(
-                    "{word} {number} {name} is not there: there are {}",
+                    "{word} {number} {name} is not there: the file has {}",
                     kind.counted(count)
                 ));
             }

@@ -185,7 +185,10 @@ fn names_that_do_not_fit_are_refused() {
             head.replace("2 hours", "1 hours") + &sum,
             "they are of a rota with 1 hours, not 2".into(),
         ),
-        ("volunteer 2 Ruth".into(), "volunteer 2 Ruth is not there: there are 2 volunteers".into()),
+        (
+            "volunteer 2 Ruth".into(),
+            "volunteer 2 Ruth is not there: the file has 2 volunteers".into(),
+        ),
         ("volunteer 255 Ruth".into(), "line 1, column 11: there is never a volunteer 255".into()),
         (
             "volunteer 0 Ruth\nvolunteer 1 RUTH".into(),

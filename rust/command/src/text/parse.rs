@@ -1,6 +1,6 @@
 //! Reads the text of a rota. Nothing has a default, and whatever is not known is a complaint.
 
-use softlode::{Refusal, Rota, RotaCounts};
+use softlode::{Refusal, Rota};
 
 use crate::hint::did_you_mean;
 use crate::names::{Kind, Names, is_bare, name};
@@ -13,7 +13,6 @@ use crate::words::{self, Complaint, Cursor, Line, Word, counted};
 #[derive(Clone, Debug)]
 pub struct Packed {
     pub bytes: Vec<u8>,
-    pub counts: RotaCounts,
     pub names: Names,
 }
 
@@ -76,7 +75,7 @@ pub fn pack(text: &str) -> Result<Packed, Unpacked> {
     let (parts, names, lines) = parse(text)?;
     let bytes = parts.bytes();
     match Rota::read(&bytes) {
-        Ok(rota) => Ok(Packed { counts: rota.counts(), names, bytes }),
+        Ok(_) => Ok(Packed { bytes, names }),
         Err(refusal) => {
             let fault = place::find(&bytes, refusal);
             let told = fault.and_then(|fault| {
