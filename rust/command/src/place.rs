@@ -6,7 +6,7 @@ use std::fmt;
 use softlode::{Refusal, Table};
 
 use crate::names::Kind;
-use crate::parts::{ALWAYS, HEADER};
+use crate::parts::{ALWAYS, HEADER, low_first};
 use crate::when::{Cycle, END, Edge, LONGEST_CYCLE, date};
 use crate::words::counted;
 
@@ -61,7 +61,7 @@ pub fn find(bytes: &[u8], refusal: Refusal) -> Option<Fault> {
 
 /// The number of so many bytes, low byte first.
 fn number(bytes: &[u8], at: usize, width: usize) -> u32 {
-    bytes[at..at + width].iter().rev().fold(0, |number, &byte| number << 8 | u32::from(byte))
+    low_first(&bytes[at..at + width]) as u32
 }
 
 /// The bytes, and the counts that the header has.

@@ -5,7 +5,7 @@ mod common;
 use cases::case::tallied;
 use cases::generate;
 use command::place;
-use softlode::Rota;
+use softlode::{Refusal, Rota};
 
 /// The small rota S: hours records at 12 and 30, of 2 pairs and 1; the role at 44, volunteer rows at
 /// 45 and 48, the right row at 51; 54 bytes.
@@ -207,6 +207,9 @@ fn every_refusal_is_explained() {
         let fault =
             fault.unwrap_or_else(|| panic!("case {}: {refusal} is not explained", case.number));
         assert!(fault.byte <= bytes.len(), "{fault}");
+        // It explains this number, and no other.
+        let others = Refusal::ALL.iter().filter(|&&other| other != refusal);
+        assert!(others.copied().all(|other| place::find(&bytes, other).is_none()), "{fault}");
     });
     tally.reached((0..=12).chain([52]));
 }

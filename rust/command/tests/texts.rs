@@ -194,12 +194,12 @@ fn every_kind_of_line_has_its_complaints() {
         (
             "role 0 reader in opening",
             "role 0 reader in openning",
-            "line 15, column 18: there is no hours named openning; did you mean opening?",
+            "line 15, column 18: there are no hours named openning; did you mean opening?",
         ),
         (
             "role 0 reader in opening",
             "role 0 reader in hours 2",
-            "line 15, column 18: there is no hours 2: the text has 2 hours",
+            "line 15, column 18: there are no hours 2: the text has 2 hours",
         ),
         // Quotes.
         (
