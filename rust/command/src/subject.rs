@@ -147,21 +147,10 @@ impl<'a> Judged<'a> {
             Judged::Table(table) => Ok(table.bytes().into()),
             Judged::Rota(rota) => {
                 let _progress = Progress::begin(io.complaints_are_terminal, "rewriting the rota");
-                Ok(rewritten(rota)?.into())
+                Ok(rota.rewrite_to_vec()?.into())
             }
         }
     }
-}
-
-/// The table of a rota, whatever its size.
-pub fn rewritten(rota: &Rota) -> Result<Vec<u8>, Refusal> {
-    // Enough for every rota.
-    const ENOUGH: usize = 35_212_336;
-    let mut area = vec![0; ENOUGH];
-    let length = rota.rewrite(&mut area)?.bytes.len();
-    area.truncate(length);
-    area.shrink_to_fit();
-    Ok(area)
 }
 
 /// The number of a volunteer or a right: digits, or a name.

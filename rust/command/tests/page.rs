@@ -1,4 +1,4 @@
-//! The examples of docs/COMMAND.md: each command prints there what it prints.
+//! The examples of docs/COMMAND.md and of README.md: each command prints there what it prints.
 
 mod common;
 
@@ -13,24 +13,17 @@ fn blocks<'a>(page: &'a str, kind: &str) -> Vec<&'a str> {
     page.split(&begin).skip(1).map(|rest| rest.split("```").next().unwrap_or("")).collect()
 }
 
-fn page() -> String {
-    let path = Path::new(env!("CARGO_MANIFEST_DIR")).join("../../docs/COMMAND.md");
+fn page(name: &str) -> String {
+    let path = Path::new(env!("CARGO_MANIFEST_DIR")).join("../..").join(name);
     std::fs::read_to_string(path).unwrap()
 }
 
-/// In a copy of data/, one after the other, by a shell.
-#[test]
-fn the_examples_of_the_page() {
-    let folder = Folder::new("page");
-    for entry in std::fs::read_dir(data("")).unwrap() {
-        let entry = entry.unwrap();
-        std::fs::copy(entry.path(), folder.path(entry.file_name().to_str().unwrap())).unwrap();
-    }
+/// Runs the examples of a page in a folder, one after the other, by a shell; gives the commands.
+fn try_examples(page: &str, folder: &Folder) -> Vec<String> {
     let program = Path::new(env!("CARGO_BIN_EXE_softlode")).parent().unwrap();
     let path = format!("{}:{}", program.display(), std::env::var("PATH").unwrap());
-    let page = page();
     let mut commands = Vec::new();
-    for block in blocks(&page, "console") {
+    for block in blocks(page, "console") {
         for example in block.strip_prefix("$ ").expect("a command first").split("\n$ ") {
             let (command, printed) = example.split_once('\n').unwrap_or((example, ""));
             let mut shell = Command::new("sh");
@@ -42,16 +35,41 @@ fn the_examples_of_the_page() {
         }
     }
     assert_eq!(commands.len(), page.lines().filter(|line| line.starts_with("$ ")).count());
+    commands
+}
+
+/// In a copy of the files of data/.
+#[test]
+fn the_examples_of_the_page() {
+    let folder = Folder::new("page");
+    for entry in std::fs::read_dir(data("")).unwrap() {
+        let path = entry.unwrap().path();
+        if path.is_file() {
+            let name = path.file_name().and_then(|name| name.to_str()).unwrap();
+            std::fs::copy(&path, folder.path(name)).unwrap();
+        }
+    }
+    let commands = try_examples(&page("docs/COMMAND.md"), &folder);
     for command in command::COMMANDS {
         let name = format!("softlode {} ", command.name);
         assert!(commands.iter().any(|line| line.contains(&name)), "no example of {name}");
     }
 }
 
+/// From an empty folder, with the text that stands there.
+#[test]
+fn the_examples_of_the_readme() {
+    let folder = Folder::new("readme");
+    let page = page("README.md");
+    let [text] = blocks(&page, "ours.text")[..] else { panic!("one text") };
+    std::fs::write(folder.path("ours.text"), text).unwrap();
+    assert_eq!(try_examples(&page, &folder).len(), 5);
+}
+
 /// The example of the text is as it is printed, and is accepted.
 #[test]
 fn the_text_of_the_page() {
-    let page = page();
+    let page = page("docs/COMMAND.md");
     let [text] = blocks(&page, "text")[..] else { panic!("one text") };
     let packed = command::text::pack(text).unwrap_or_else(|why| panic!("{why}"));
     let rota = softlode::Rota::read(&packed.bytes).unwrap();
