@@ -5,7 +5,7 @@
 --     holders-as, answer-as                                  what the rota or the table answers is what the lent bytes answer
 --     prepared-rota, prepared-table, permitted               what is found out once
 --     held-rota, held-table                                  who holds a permission by it, and how far
---     kind-is, own, holders-are, answer-is, users-are,
+--     own, holders-are, answer-is, users-are,
 --     permissions-are, few, cycle-fine, steady-are           what is lent, in the words of the kind that it was lent as
 -- Assumes nothing.
 use Prim.Native.Nat.{ℕ, _<_, _≤_}
@@ -166,7 +166,7 @@ cycle-as kind.Rota s a = let h = rota-fine s a .header in (h .cycle-some, h .cyc
 cycle-as kind.Table s a = let h = table-fine s a .header in (h .cycle-some, h .cycle-most)
 
 module _ {k : Kind} {s : List ℕ} {x : Source} (w : Lends k s x) where
-  pub kind-is : kindOf x ≡ k
+  kind-is : kindOf x ≡ k
   kind-is = ap kindOf (w .source-is) ∙ kind-as k s
 
   pub own : Lends (kindOf x) s x

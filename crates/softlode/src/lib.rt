@@ -32,12 +32,14 @@ use told::TidiedTold;
 use told::Told;
 use told::WrittenTold;
 
-// The version, 1.0.0: the major one in millions, the minor one in thousands, and the patch.
+// The version is 1.0.0: millions are the major one, thousands the minor one, and the rest the patch.
+const VERSION: u32 = 1000000;
+
 #[no_mangle]
 pub extern "C" fn softlode_version() -> u32
     ensures { λ r. ⌜ r ≡ 1000000 ⌝ }
 {
-    1000000
+    VERSION
 }
 
 #[no_mangle]

@@ -40,7 +40,7 @@ put-table-requires c κs =
     let k = c .before .before .before .before .before .before .before .before .before .before .before .before .count-all in
     let kp = k .kept .1 .1 .1 .1 .1 .1 .1 .1 .1 .1 .1 .1 .0 in
     let km = k .kept .1 .1 .1 .1 .1 .1 .1 .1 .1 .1 .1 .1 .1 .0 in (
-      (p .0 .0, p .0 .1, p .0 .2, counted-within (p .0 .4) (k .ensures .0)),
+      (p .0 .0, p .0 .1, p .0 .2, counted-within (omega (arith, p .0 .4)) (k .ensures .0)),
       (
         p .0 .3,
         p .1 .0,
@@ -63,7 +63,7 @@ same-length-4 : tie.Need-same-length-4
 same-length-4 c = search needs
 
 returns : tie.Need-returns
-returns c = search needs
+returns c = (c .before .before .before .before .before .before .before .before .before .before .before .before .before .before .before .before .before .before .before .before .before .count-all .ensures .0, c .before .before .before .before .before .before .before .before .put-table .ensures)
 
 pub place-table-spec : {M : Type 1} → statement M
 place-table-spec =
