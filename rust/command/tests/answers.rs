@@ -126,14 +126,14 @@ fn names_are_taken_and_shown() {
     };
     for (words, status, expected) in [
         (
-            vec!["ask", "coordinator", "approve a record", "2024-02-26 09:00"],
+            vec!["ask", "Agnes", "approve a record", "2024-02-26 09:00"],
             0,
-            "yes, by role approver (2): coordinator (0) may approve a record (4) on Mon 2024-02-26 09:00\n",
+            "yes, by role approver (2): Agnes (0) may approve a record (4) on Mon 2024-02-26 09:00\n",
         ),
         (
             vec!["ask", "0", "4", "2024-02-26T09:00"],
             0,
-            "yes, by role approver (2): coordinator (0) may approve a record (4) on Mon 2024-02-26 09:00\n",
+            "yes, by role approver (2): Agnes (0) may approve a record (4) on Mon 2024-02-26 09:00\n",
         ),
         (
             vec!["ask", "--no-names", "0", "4", "Mon", "2024-02-26", "9:00"],
@@ -143,18 +143,18 @@ fn names_are_taken_and_shown() {
         (
             vec!["ask", "5", "discard a record", "minute", "12182400"],
             0,
-            "no: volunteer 5 may not discard a record (8) on Fri 2024-03-01 00:00\n",
+            "no: Felix (5) may not discard a record (8) on Fri 2024-03-01 00:00\n",
         ),
         (
-            vec!["ask", "cordinator", "4", "0"],
+            vec!["ask", "Anges", "4", "0"],
             2,
-            "softlode: there is no volunteer named cordinator; did you mean coordinator?\n",
+            "softlode: there is no volunteer named Anges; did you mean Agnes?\n",
         ),
         (vec!["ask", "0", "approve", "0"], 2, "softlode: there is no right named approve\n"),
         (
-            vec!["ask", "--no-names", "coordinator", "4", "0"],
+            vec!["ask", "--no-names", "Agnes", "4", "0"],
             2,
-            "softlode: there is no volunteer named coordinator\n",
+            "softlode: there is no volunteer named Agnes\n",
         ),
         (vec!["ask", "20", "4", "0"], 1, "softlode: refused 34: there is no such volunteer\n"),
         (
@@ -192,12 +192,12 @@ fn names_are_taken_and_shown() {
         (
             vec!["next", "5", "8", "2024-02-26 09:00"],
             0,
-            "Sun 2024-03-03 14:00: the first minute from Mon 2024-02-26 09:00 on at which volunteer 5 may discard a record (8)\n",
+            "Sun 2024-03-03 14:00: the first minute from Mon 2024-02-26 09:00 on at which Felix (5) may discard a record (8)\n",
         ),
         (
-            vec!["next", "coordinator", "8", "0"],
+            vec!["next", "Agnes", "8", "0"],
             0,
-            "none: coordinator (0) may not discard a record (8) from Mon 2001-01-01 00:00 to the end of 2400\n",
+            "none: Agnes (0) may not discard a record (8) from Mon 2001-01-01 00:00 to the end of 2400\n",
         ),
     ] {
         assert_eq!(says(&words), (status, expected.to_string()), "{words:?}");

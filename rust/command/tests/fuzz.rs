@@ -203,7 +203,7 @@ fn any_words() {
         "5",
         "8",
         "64",
-        "coordinator",
+        "Agnes",
         "discard a record",
         "2024-03-03",
         "14:00",

@@ -212,7 +212,7 @@ fn layout_is_free() {
         text.replace("cycle 1 week", "cycle 7 days"),
         text.replace("cycle 1 week", "cycle 10080 minutes"),
         text.replace("cycle 1 week", "cycle 168 hours"),
-        text.replace("coordinator is", "volunteer 0 is"),
+        text.replace("Agnes is", "volunteer 0 is"),
         text.replace("is reader in opening", "is role 0 in hours 0"),
     ];
     assert_eq!(tabbed.unwrap().bytes, packed.bytes);
