@@ -280,7 +280,7 @@ derived role 2, of role 0
     let names = data("week.rota.names").into_os_string();
     let ran = run(&["list".into(), table, "--names".into(), names], b"");
     assert!(ran.text().contains(
-        "\nderived role 20, of discarder (4)\n    volunteers: 5, 8, 9\n    rights: discard a record (8)\n    \
+        "\nderived role 20, of discarder (4)\n    volunteers: Felix (5), Ida (8), Jonas (9)\n    rights: discard a record (8)\n    \
          dates from Mon 2001-01-01 00:00 to before Wed 2023-11-01 00:00\n        \
          open from Sun 14:00 to before Sun 17:00\n"
     ));
