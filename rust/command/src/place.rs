@@ -156,7 +156,7 @@ pub const LIMITS: Limits = Limits {
     rights: 64,
     roles: 32,
     rows: 512,
-    bytes: 4_460,
+    bytes: softlode::LARGEST_ROTA,
 };
 
 /// What a file is that is no rota.
