@@ -232,7 +232,7 @@ pub fn run(commands: &[Command], words: &[OsString], io: &mut Io) -> Result<Stat
         })
     };
     if first == "--version" || first == "-V" {
-        io.print(concat!("softlode ", env!("CARGO_PKG_VERSION"), "\n"))?;
+        io.print(&format!("softlode {}\n", softlode::version()))?;
     } else if is_help(first) || first == "help" {
         let help = match rest {
             [] => whole_help(commands),
