@@ -9,6 +9,7 @@ BINDIR = $(PREFIX)/bin
 LIBDIR = $(PREFIX)/lib
 INCLUDEDIR = $(PREFIX)/include
 DATADIR = $(PREFIX)/share/softlode
+DOCDIR = $(PREFIX)/share/doc/softlode
 CFLAGS = -O2
 
 # The header's version, as 1 0 0.
@@ -61,9 +62,10 @@ bin := $(DESTDIR)$(BINDIR)
 lib := $(DESTDIR)$(LIBDIR)
 include := $(DESTDIR)$(INCLUDEDIR)
 data := $(DESTDIR)$(DATADIR)
+doc := $(DESTDIR)$(DOCDIR)
 
 install: all
-	install -d '$(bin)' '$(lib)/pkgconfig' '$(include)' '$(data)/python' '$(data)/rust/src'
+	install -d '$(bin)' '$(lib)/pkgconfig' '$(include)' '$(data)/python' '$(data)/rust/src' '$(doc)'
 	install -m 755 $(command) '$(bin)'
 	install -m 755 target/bin/listing '$(bin)/softlode-listing'
 	install -m 644 include/softlode.h '$(include)'
@@ -78,8 +80,9 @@ install: all
 	install -m 644 python/softlode.py '$(data)/python'
 	install -m 644 rust/softlode/Cargo.toml rust/softlode/build.rs '$(data)/rust'
 	install -m 644 rust/softlode/src/*.rs '$(data)/rust/src'
+	install -m 644 docs/COMMAND.md docs/FORMAT.md docs/HOSTING.md '$(doc)'
 
 uninstall:
 	rm -f '$(bin)/softlode' '$(bin)/softlode-listing' '$(include)/softlode.h' '$(lib)/libsoftlode.a' '$(lib)/pkgconfig/softlode.pc'
 	rm -f '$(lib)/libsoftlode.so' '$(lib)/libsoftlode.so.$(major)' '$(lib)/libsoftlode.so.$(version)'
-	rm -rf '$(data)'
+	rm -rf '$(data)' '$(doc)'
