@@ -6,7 +6,7 @@ use super::terminal::moved;
 use super::times::{by_set, by_time, day, members};
 use super::{Report, differences};
 use crate::names::Kind;
-use crate::when::{DAY, HOUR, date};
+use crate::when::{DAY, HOUR, WEEKDAYS, date};
 use crate::words::counted;
 
 /// Text as it stands in a page; characters that no page may have are spelled out.
@@ -64,6 +64,21 @@ fn tone(set: u64) -> usize {
     TONES.iter().filter(|&&least| set.count_ones() >= least).count()
 }
 
+/// Words of times as they stand in a page: a weekday is not parted from its date, nor a date within.
+fn dated(words: &str) -> String {
+    let mut text = String::new();
+    let mut words = words.split(' ').peekable();
+    while let Some(word) = words.next() {
+        let with_date = words.next_if(|_| WEEKDAYS.contains(&word));
+        text += &match with_date {
+            Some(date) => format!("<span>{word} {date}</span>"),
+            None => word.to_string(),
+        };
+        text += if words.peek().is_some() { " " } else { "" };
+    }
+    text
+}
+
 /// A part of a whole in percent, exact to far less than a minute.
 fn percent(part: u32, whole: u32) -> String {
     let text = format!("{:.4}", f64::from(part) * 100.0 / f64::from(whole));
@@ -87,13 +102,14 @@ pub fn page(report: &Report) -> String {
         "<!DOCTYPE html>\n<html lang=\"en\">\n<head>\n<meta charset=\"utf-8\" />\n\
          <meta name=\"viewport\" content=\"width=device-width, initial-scale=1\" />\n\
          <title>{source}: {title}</title>\n<style>\n{css}</style>\n</head>\n<body>\n<header>\n\
-         <h1>Who may do what in the {title}</h1>\n<p>By {source}{by}: {counts}, a cycle of {cycle}. {remarks}</p>\n",
+         <h1>Who may do what in the {dated_title}</h1>\n<p>By {source}{by}: {counts}, a cycle of {cycle}. {remarks}</p>\n",
         source = escaped(&report.source),
+        dated_title = dated(&title),
         css = include_str!("page.css"),
         by = report.by,
         counts = counts.join(", "),
         cycle = report.week.cycle.words(),
-        remarks = report.remarks().join(" "),
+        remarks = dated(&report.remarks().join(" ")),
     );
     page += &compared(report, &groups);
     page += &contents(report, &groups);
@@ -120,8 +136,10 @@ fn plural(kind: Kind) -> (&'static str, &'static str) {
     if kind == Kind::Right { ("rights", "Rights") } else { ("volunteers", "Volunteers") }
 }
 
-fn link(report: &Report, section: &Section) -> String {
-    format!("<li><a href=\"#{}\">{}</a></li>\n", anchor(section), name(&report.name(section)))
+/// Links to sections.
+fn links<'a>(report: &Report, sections: impl Iterator<Item = &'a Section>) -> String {
+    let link = |section: &Section| format!("<a href=\"#{}\">{}</a>", anchor(section), name(&report.name(section)));
+    sections.map(link).collect::<Vec<_>>().join(", ")
 }
 
 /// What differs in the turns beside, so that nobody reads one for all.
@@ -129,20 +147,8 @@ fn compared(report: &Report, groups: &[(Kind, Vec<Section>); 2]) -> String {
     let mut text = String::new();
     for which in [0, 1] {
         let sections = || groups.iter().flat_map(|(_, sections)| sections);
-        let against = sections().next().and_then(|section| section.against[which].as_ref());
-        let differs = |section: &&Section| section.against[which].as_ref().is_some_and(|against| !against.is_same());
-        let links: String = sections().filter(differs).map(|section| link(report, section)).collect();
-        let remark = report.comparison(which, against).unwrap_or_default();
-        let said = match (against, links.is_empty()) {
-            (None, _) => "",
-            (Some(_), true) => "Nothing differs.",
-            (Some(_), false) => "These differ:",
-        };
-        let words = [said, &remark].join(" ");
-        text += &format!("<p><b>Compared with {}:</b> {}</p>\n", report.beside(which), words.trim());
-        if !links.is_empty() {
-            text += &format!("<ul class=\"row\">\n{links}</ul>\n");
-        }
+        let differing = sections().filter(|section| section.differs(which));
+        text += &format!("<p>{}</p>\n", report.compared(which, sections().next(), links(report, differing)));
     }
     text
 }
@@ -152,15 +158,14 @@ fn contents(report: &Report, groups: &[(Kind, Vec<Section>); 2]) -> String {
     let mut text = String::from("<nav aria-label=\"Contents\">\n");
     for (kind, sections) in groups.iter().filter(|(_, sections)| !sections.is_empty()) {
         let (id, heading) = plural(*kind);
-        let links: String = sections.iter().map(|section| link(report, section)).collect();
-        text += &format!("<p><a href=\"#{id}\"><b>{heading}</b></a></p>\n<ul class=\"row\">\n{links}</ul>\n");
+        text += &format!("<p><a href=\"#{id}\"><b>{heading}</b></a>: {}</p>\n", links(report, sections.iter()));
     }
     text + "</nav>\n"
 }
 
 /// How the pictures are read.
 fn legend(report: &Report) -> String {
-    let mut text = String::from("<p class=\"legend\">\n<span>A letter leads to the row of the table.</span>\n");
+    let mut text = String::from("<p class=\"legend\">\n<span>A letter leads to a row of the table. How many at once:</span>\n");
     for (i, least) in TONES.iter().enumerate() {
         let most = TONES.get(i + 1).map(|next| next - 1);
         let words = match most {
@@ -175,7 +180,11 @@ fn legend(report: &Report) -> String {
         );
     }
     let [before, after] = [0, 1].map(|which| report.beside(which));
-    for (class, words) in [("here", "here, and not there"), ("there", "there, and not here")] {
+    let unit = report.unit();
+    for (class, words) in [
+        ("here", format!("here, not in the other {unit}")),
+        ("there", format!("in the other {unit}, not here")),
+    ] {
         text += &format!(
             "<span><svg width=\"22\" height=\"6\" aria-hidden=\"true\"><rect class=\"{class}\" x=\"1\" y=\"1\" width=\"20\" \
              height=\"4\" /></svg> {words}</span>\n"
@@ -191,9 +200,9 @@ fn one(report: &Report, section: &Section) -> String {
     let picture = picture(report, section, &|set| rows.iter().position(|row| row.0 == set).map(key));
     format!(
         "<section class=\"one\" id=\"{id}\" aria-labelledby=\"{id}-name\">\n<h3 id=\"{id}-name\">{title}</h3>\n\
-         <div class=\"pair\">\n{picture}<div>\n{}{}</div>\n</div>\n</section>\n",
-        table(report, section, &rows),
-        differing(report, section)
+         <div class=\"pair\">\n<div>\n{picture}{}</div>\n<div>\n{}</div>\n</div>\n</section>\n",
+        differing(report, section),
+        table(report, section, &rows)
     )
 }
 
@@ -335,7 +344,7 @@ fn table(report: &Report, section: &Section, rows: &[(u64, Vec<super::times::Tim
     );
     for (i, (set, times)) in rows.iter().enumerate() {
         let times: String =
-            times.iter().map(|times| format!("<li>{}</li>", times.words(report.week.cycle))).collect();
+            times.iter().map(|times| format!("<li>{}</li>", dated(&times.words(report.week.cycle)))).collect();
         text += &format!(
             "<tr><th scope=\"row\" class=\"k\"><i class=\"t{}\">{}</i></th><td><ul>{times}</ul></td><td>{}</td></tr>\n",
             tone(*set),
@@ -355,7 +364,7 @@ fn differing(report: &Report, section: &Section) -> String {
         text += &format!("<dt>{first}{}</dt>\n", letters.as_str());
         for (times, set) in by_time(runs, report.week.cycle) {
             let who = who(report, section.others(), set);
-            text += &format!("<dd>{}: {who}</dd>\n", times.words(report.week.cycle));
+            text += &format!("<dd>{}: {who}</dd>\n", dated(&times.words(report.week.cycle)));
         }
     }
     if text.is_empty() { text } else { format!("<dl class=\"differs\">\n{text}</dl>\n") }

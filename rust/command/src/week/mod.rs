@@ -7,6 +7,7 @@ pub mod terminal;
 pub mod times;
 mod width;
 
+use std::cmp::Ordering;
 use std::path::Path;
 use std::time::{SystemTime, UNIX_EPOCH};
 
@@ -22,7 +23,7 @@ use crate::run::{Failure, Io, Status};
 use crate::subject::{Judged, Subject, number};
 use crate::when::{Cycle, DAY, WEEK, date, read_when};
 use crate::words::shown;
-use model::{Against, Cuts, Section, Turn, Week};
+use model::{Cuts, Run, Section, Turn, Week};
 use times::{date_of_end, day, listed};
 
 /// Shows a week, or writes it as a page.
@@ -188,7 +189,7 @@ impl Report {
             remarks.push("It is cut off by the end of 2400.".into());
         }
         remarks.push(
-            "A time is from a minute to before another, by the archive's clock, which keeps no summer time."
+            "Times are from a minute to before another, by the archive's clock, which keeps no summer time."
                 .into(),
         );
         let (before, within, after) = &self.week.changes;
@@ -212,18 +213,25 @@ impl Report {
         format!("the {} {}", self.unit(), ["before", "after"][which])
     }
 
-    /// Whether there is a turn beside, and how far it can be compared.
-    pub fn comparison(&self, which: usize, against: Option<&Against>) -> Option<String> {
-        let beside = self.beside(which);
-        match against {
-            None if which == 0 => Some(format!("There is none: 2001 begins with this {}.", self.unit())),
-            None => Some(format!("There is none: 2400 ends with this {}.", self.unit())),
-            Some(against) if against.turn.length() != self.week.turn.length() => {
-                let cut = if against.turn.length() < self.week.turn.length() { beside } else { "this one".into() };
-                Some(format!("Only the beginning is compared, since 2400 ends in {cut}."))
-            }
-            Some(_) => None,
+    /// What differs from a turn beside, of which a section that is shown knows; and how far the two
+    /// can be compared.
+    pub fn compared(&self, which: usize, known: Option<&Section>, differing: String) -> String {
+        let (unit, beside) = (self.unit(), self.beside(which));
+        let Some(section) = known else { return format!("Nothing is shown of {beside}.") };
+        let Some(against) = &section.against[which] else {
+            let ends = ["2001 begins", "2400 ends"][which];
+            return format!("There is no {unit} {}: {ends} with this one.", ["before", "after"][which]);
+        };
+        let [here, there] = [self.week.turn, against.turn].map(Turn::length);
+        let so_far = match here.cmp(&there) {
+            Ordering::Equal => "",
+            Ordering::Less => " Only its beginning is compared: 2400 ends in this one.",
+            Ordering::Greater => " Only the beginning is compared: 2400 ends in it.",
+        };
+        if differing.is_empty() {
+            return format!("Nothing is otherwise in {beside}.{so_far}");
         }
+        format!("Otherwise in {beside}: {differing}.{so_far}")
     }
 }
 
@@ -232,7 +240,7 @@ impl Report {
 pub fn differences<'a>(
     report: &Report,
     section: &'a Section,
-) -> Vec<(String, &'a [model::Run])> {
+) -> Vec<(String, &'a [Run])> {
     let mut all = Vec::new();
     for (which, against) in section.against.iter().enumerate() {
         let Some(against) = against else { continue };

@@ -137,12 +137,6 @@ pub struct Against {
     pub there: Vec<Run>,
 }
 
-impl Against {
-    pub fn is_same(&self) -> bool {
-        self.here.is_empty() && self.there.is_empty()
-    }
-}
-
 /// A right and who may use it, or a volunteer and what they may use.
 #[derive(Clone, Debug, PartialEq, Eq)]
 pub struct Section {
@@ -156,13 +150,14 @@ pub struct Section {
 impl Section {
     /// The kind of those in the sets of the runs.
     pub fn others(&self) -> Kind {
-        others(self.kind)
+        if self.kind == Kind::Right { Kind::Volunteer } else { Kind::Right }
     }
-}
 
-/// Who uses rights, and what volunteers use.
-pub fn others(kind: Kind) -> Kind {
-    if kind == Kind::Right { Kind::Volunteer } else { Kind::Right }
+    /// Whether it differs from the turn before, 0, or after, 1.
+    pub fn differs(&self, which: usize) -> bool {
+        let against = self.against[which].as_ref();
+        against.is_some_and(|against| !against.here.is_empty() || !against.there.is_empty())
+    }
 }
 
 /// From a minute to before another: what each volunteer may use.

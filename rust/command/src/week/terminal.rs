@@ -184,7 +184,9 @@ pub fn print(report: &Report, look: Option<&Look>) -> String {
         text += &wrapped(0, &remark, look);
     }
     for which in [0, 1] {
-        text += &wrapped(0, &compared(report, &sections, which), look);
+        let differing = sections.iter().filter(|section| section.differs(which));
+        let differing: Vec<String> = differing.map(|section| report.name(section)).collect();
+        text += &wrapped(0, &report.compared(which, sections.first(), differing.join(", ")), look);
     }
     if let Some((lines, look)) = &lines {
         text += &wrapped(0, &lines.legend(report, look), Some(look));
@@ -197,26 +199,6 @@ pub fn print(report: &Report, look: Option<&Look>) -> String {
         text += &times(report, section, look);
     }
     text
-}
-
-/// Which of what is shown differs from a turn beside.
-fn compared(report: &Report, sections: &[Section], which: usize) -> String {
-    let beside = report.beside(which);
-    let against = sections.first().and_then(|section| section.against[which].as_ref());
-    let differing: Vec<String> = sections
-        .iter()
-        .filter(|section| section.against[which].as_ref().is_some_and(|against| !against.is_same()))
-        .map(|section| report.name(section))
-        .collect();
-    let said = match (against, differing.as_slice()) {
-        _ if sections.is_empty() => "nothing is shown.".into(),
-        (None, _) => String::new(),
-        (Some(_), []) => "nothing differs.".to_string(),
-        (Some(_), differing) => format!("{} differ.", differing.join(", ")),
-    };
-    let remark = report.comparison(which, against).filter(|_| !sections.is_empty());
-    let words = [said, remark.unwrap_or_default()];
-    format!("Compared with {beside}: {}", words.join(" ").trim())
 }
 
 /// The times of a section, and then what differs.
