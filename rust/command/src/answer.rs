@@ -2,52 +2,68 @@
 
 use std::io::Write;
 
-use softlode::{Refusal, Table};
+use softlode::Table;
 
 use crate::args::Call;
 use crate::names::{Kind, Names};
+use crate::parts::low_first;
 use crate::progress::Progress;
 use crate::run::{Failure, Io, Status};
-use crate::subject::{Subject, number};
+use crate::subject::{Judged, Subject, number};
 use crate::when::{Cycle, date, read_when, span};
 use crate::words::counted;
 
 /// The minute that the arguments from this one on name.
-fn minute_of(call: &Call, first: usize) -> Result<u32, Failure> {
+pub fn minute_of(call: &Call, first: usize) -> Result<u32, Failure> {
     let words: Vec<String> = (first..call.arguments.len()).map(|i| call.text(i)).collect();
     let words: Vec<&str> = words.iter().map(String::as_str).collect();
     read_when(&words).map_err(Failure::Wrong)
 }
 
-pub(crate) fn refused(refusal: Refusal) -> Failure {
-    Failure::Refused(refusal.to_string())
+/// A question about a volunteer, a right and a minute, to a rota or a table.
+struct Question<'a> {
+    judged: Judged<'a>,
+    names: Names,
+    volunteer: u32,
+    right: u32,
+    minute: u32,
 }
 
-/// What a right lets do.
-fn deed(names: &Names, right: u32) -> String {
-    let shown = names.shown(Kind::Right, right);
-    if names.get(Kind::Right, right).is_some() { shown } else { format!("use {shown}") }
+impl Question<'_> {
+    fn of<'a>(subject: &'a Subject, call: &Call, io: &mut Io) -> Result<Question<'a>, Failure> {
+        let minute = minute_of(call, 3)?;
+        let judged = subject.judged()?;
+        let names = subject.names(call, judged, io)?;
+        let volunteer = number(&names, Kind::Volunteer, &call.text(1))?;
+        let right = number(&names, Kind::Right, &call.text(2))?;
+        Ok(Question { judged, names, volunteer, right, minute })
+    }
+
+    fn who(&self) -> String {
+        self.names.shown(Kind::Volunteer, self.volunteer)
+    }
+
+    /// What the right lets do.
+    fn what(&self) -> String {
+        let is_named = self.names.get(Kind::Right, self.right).is_some();
+        let verb = if is_named { "" } else { "use " };
+        format!("{verb}{}", self.names.shown(Kind::Right, self.right))
+    }
 }
 
 /// May a volunteer use a right at a minute?
 pub fn ask(call: &Call, io: &mut Io) -> Result<Status, Failure> {
-    let minute = minute_of(call, 3)?;
     let subject = Subject::read(call, io)?;
-    let judged = subject.judged()?;
-    let names = subject.names(call, judged, io)?;
-    let volunteer = number(&names, Kind::Volunteer, &call.text(1))?;
-    let right = number(&names, Kind::Right, &call.text(2))?;
-    let answer = judged.lent().may(volunteer, right, minute).map_err(refused)?;
-    let (who, what, when) =
-        (names.shown(Kind::Volunteer, volunteer), deed(&names, right), date(minute));
-    let by = judged.by();
-    let line = match answer {
+    let question = Question::of(&subject, call, io)?;
+    let Question { judged, ref names, volunteer, right, minute } = question;
+    let (who, what, when) = (question.who(), question.what(), date(minute));
+    let line = match judged.lent().may(volunteer, right, minute)? {
         Some(role) => {
             let role = names.shown(Kind::Role, role);
             let role = role.strip_prefix("role ").unwrap_or(&role);
-            format!("yes, by role {role}: {who} may {what} on {when}{by}\n")
+            format!("yes, by role {role}: {who} may {what} on {when}{}\n", judged.by())
         }
-        None => format!("no: {who} may not {what} on {when}{by}\n"),
+        None => format!("no: {who} may not {what} on {when}{}\n", judged.by()),
     };
     io.print(line)?;
     Ok(Status::Done)
@@ -55,23 +71,17 @@ pub fn ask(call: &Call, io: &mut Io) -> Result<Status, Failure> {
 
 /// When may a volunteer next use a right?
 pub fn next(call: &Call, io: &mut Io) -> Result<Status, Failure> {
-    let minute = minute_of(call, 3)?;
     let subject = Subject::read(call, io)?;
-    let judged = subject.judged()?;
-    let names = subject.names(call, judged, io)?;
-    let volunteer = number(&names, Kind::Volunteer, &call.text(1))?;
-    let right = number(&names, Kind::Right, &call.text(2))?;
+    let question = Question::of(&subject, call, io)?;
+    let Question { judged, volunteer, right, minute, .. } = question;
     let table = judged.table(io)?;
-    let next = Table::read(&table).and_then(|table| table.next_use(volunteer, right, minute));
-    let (who, what) = (names.shown(Kind::Volunteer, volunteer), deed(&names, right));
-    let (from, by) = (date(minute), judged.by());
-    let line = match next.map_err(refused)? {
-        Some(next) => {
-            format!("{}: {who} may {what} then, and not before, from {from} on{by}\n", date(next))
-        }
-        None => format!("none: {who} may not {what} from {from} to the end of 2400{by}\n"),
+    let next = Table::read(&table)?.next_use(volunteer, right, minute)?;
+    let (who, what, from) = (question.who(), question.what(), date(minute));
+    let line = match next.map(date) {
+        Some(next) => format!("{next}: the first minute from {from} on at which {who} may {what}"),
+        None => format!("none: {who} may not {what} from {from} to the end of 2400"),
     };
-    io.print(line)?;
+    io.print(format!("{line}{}\n", judged.by()))?;
     Ok(Status::Done)
 }
 
@@ -82,8 +92,8 @@ pub fn board(call: &Call, io: &mut Io) -> Result<Status, Failure> {
     let judged = subject.judged()?;
     let names = subject.names(call, judged, io)?;
     let table = judged.table(io)?;
-    let table = Table::read(&table).map_err(refused)?;
-    let board = table.board(minute).map_err(refused)?;
+    let table = Table::read(&table)?;
+    let board = table.board(minute)?;
     let volunteers = table.counts().volunteers;
     let mut text = format!("on {}{}:\n", date(minute), judged.by());
     let mut idle = 0;
@@ -151,17 +161,13 @@ impl<'a> Listed<'a> {
     }
 }
 
-fn low_first(bytes: &[u8]) -> u64 {
-    bytes.iter().rev().fold(0, |number, &byte| number << 8 | u64::from(byte))
-}
-
 /// The table, whatever its size.
 pub fn list(call: &Call, io: &mut Io) -> Result<Status, Failure> {
     let subject = Subject::read(call, io)?;
     let judged = subject.judged()?;
     let names = subject.names(call, judged, io)?;
     let bytes = judged.table(io)?;
-    let table = Table::read(&bytes).map_err(refused)?;
+    let table = Table::read(&bytes)?;
     let is_shown = io.complaints_are_terminal && !io.output_is_terminal;
     let _progress = Progress::begin(is_shown, "listing the table");
     if call.plain { list_plain(&table, io.output) } else { list_words(&table, &names, io.output) }

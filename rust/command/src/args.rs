@@ -19,22 +19,15 @@ pub enum Opt {
     Plain,
     /// `--html OUT`: a page is written.
     Html,
-    /// `--right RIGHT`
+    /// `--right NAME`
     Right,
-    /// `--volunteer VOLUNTEER`
+    /// `--volunteer NAME`
     Volunteer,
 }
 
 impl Opt {
-    const ALL: [Opt; 7] = [
-        Opt::Output,
-        Opt::Names,
-        Opt::NoNames,
-        Opt::Plain,
-        Opt::Html,
-        Opt::Right,
-        Opt::Volunteer,
-    ];
+    const ALL: [Opt; 7] =
+        [Opt::Output, Opt::Names, Opt::NoNames, Opt::Plain, Opt::Html, Opt::Right, Opt::Volunteer];
 
     fn long(self) -> &'static str {
         ["--output", "--names", "--no-names", "--plain", "--html", "--right", "--volunteer"]
@@ -56,9 +49,9 @@ impl Opt {
                 "  --plain               the plain listing: numbers, and sets in hexadecimal\n"
             }
             Opt::Html => "  --html OUT            write a page to OUT, whole or not at all\n",
-            Opt::Right => "  --right RIGHT         show this right alone, by number or name\n",
+            Opt::Right => "  --right NAME          show this right alone, by name or number\n",
             Opt::Volunteer => {
-                "  --volunteer VOLUNTEER show this volunteer alone, by number or name\n"
+                "  --volunteer NAME      show this volunteer alone, by name or number\n"
             }
         }
     }

@@ -2,10 +2,10 @@
 
 use std::path::Path;
 
-use softlode::{Refusal, Rota, RotaCounts};
+use softlode::{Rota, RotaCounts};
 
 use crate::args::Call;
-use crate::files::{Pending, Place, with_names};
+use crate::files::{Pending, Source, with_names};
 use crate::names::{Head, Names, NamesFile};
 use crate::parts::Parts;
 use crate::run::{Failure, Io, Status};
@@ -63,11 +63,11 @@ pub fn text(call: &Call, io: &mut Io) -> Result<Status, Failure> {
 
 /// Makes a rota from its text.
 pub fn pack(call: &Call, io: &mut Io) -> Result<Status, Failure> {
-    let place = Place::of(&call.arguments[0]);
-    let bytes = place.read_text(io)?;
+    let source = Source::of(&call.arguments[0]);
+    let bytes = source.read_text(io)?;
     let packed = words::text(&bytes).map_err(text::Unpacked::from).and_then(text::pack);
     let packed = packed.map_err(|unpacked| {
-        Failure::Refused(format!("{}, {unpacked}{}", place.shown(), binary_hint(&bytes)))
+        Failure::Refused(format!("{}, {unpacked}{}", source.shown(), binary_hint(&bytes)))
     })?;
     write_rota(call, io, &packed.bytes, &packed.names)?;
     if output(call).is_none() && !packed.names.is_empty() {
@@ -91,13 +91,9 @@ pub fn tidy(call: &Call, io: &mut Io) -> Result<Status, Failure> {
     let rota = subject.rota()?;
     let names = subject.names(call, Judged::Rota(rota), io)?;
     let mut area = vec![0; subject.bytes.len()];
-    let tidy = rota.tidy(&mut area).map_err(refused)?;
+    let tidy = rota.tidy(&mut area)?;
     write_rota(call, io, tidy, &names)?;
     Ok(Status::Done)
-}
-
-fn refused(refusal: Refusal) -> Failure {
-    Failure::Refused(refusal.to_string())
 }
 
 /// The file that is written to; standard output where there is none, or `-`.
@@ -107,7 +103,7 @@ fn output(call: &Call) -> Option<&Path> {
 
 /// Writes the bytes of a rota that the library accepts, and its names beside them.
 fn write_rota(call: &Call, io: &mut Io, bytes: &[u8], names: &Names) -> Result<(), Failure> {
-    let rota = Rota::read(bytes).map_err(refused)?;
+    let rota = Rota::read(bytes)?;
     let Some(path) = output(call) else {
         if io.output_is_terminal {
             let what = "the bytes of a rota are not for a terminal: -o OUT writes them to a file";
@@ -119,12 +115,15 @@ fn write_rota(call: &Call, io: &mut Io, bytes: &[u8], names: &Names) -> Result<(
     let written = format!("wrote {}: {}", path.display(), counts_in_words(&rota.counts()));
     if !rota_file.is_plain() {
         rota_file.commit()?;
+        if !names.is_empty() {
+            io.note(format_args!("the names are not kept: {} is no plain file", path.display()));
+        }
         return io.print(format!("{written}\n"));
     }
     // Both are whole before the first is in its place. Between the two the sum says that the names
     // are not those of the rota.
     let names_path = with_names(path);
-    let head = Some(Head::of(&rota).map_err(refused)?);
+    let head = Some(Head::of(&rota)?);
     let names_file = NamesFile { names: names.clone(), head };
     let names_file = Pending::write(&names_path, names_file.print().as_bytes())?;
     names_file.commit()?;

@@ -6,49 +6,50 @@ use std::io::{self, ErrorKind, Read, Write};
 use std::os::unix::fs::{MetadataExt, OpenOptionsExt, PermissionsExt, fchown};
 use std::path::{Path, PathBuf};
 
+use crate::parts::low_first;
 use crate::place::LIMITS;
 use crate::run::{Failure, Io};
 
 /// The longest text of a rota, or names file, that is read.
 const LONGEST_TEXT: u64 = 4 << 20;
 
-/// Where bytes come from or go to: a file, or with `-` standard input or output.
+/// Where bytes come from: a file, or with `-` standard input.
 #[derive(Clone, Debug, PartialEq, Eq)]
-pub enum Place {
+pub enum Source {
     Standard,
     File(PathBuf),
 }
 
-impl Place {
-    pub fn of(argument: &OsStr) -> Place {
-        if argument == "-" { Place::Standard } else { Place::File(argument.into()) }
+impl Source {
+    pub fn of(argument: &OsStr) -> Source {
+        if argument == "-" { Source::Standard } else { Source::File(argument.into()) }
     }
 
     /// How a complaint about what is read calls it.
     pub fn shown(&self) -> String {
         match self {
-            Place::Standard => "standard input".into(),
-            Place::File(path) => path.display().to_string(),
+            Source::Standard => "standard input".into(),
+            Source::File(path) => path.display().to_string(),
         }
     }
 
     /// The names file beside it.
     pub fn names(&self) -> Option<PathBuf> {
         match self {
-            Place::Standard => None,
-            Place::File(path) => Some(with_names(path)),
+            Source::Standard => None,
+            Source::File(path) => Some(with_names(path)),
         }
     }
 
-    /// Reads up to so many bytes.
+    /// Reads it by this function, which may stop before its end.
     pub fn read(
         &self,
         io: &mut Io,
         read: impl Fn(&mut dyn Read) -> io::Result<Vec<u8>>,
     ) -> Result<Vec<u8>, Failure> {
         let bytes = match self {
-            Place::Standard => read(io.input),
-            Place::File(path) => File::open(path).and_then(|mut file| read(&mut file)),
+            Source::Standard => read(io.input),
+            Source::File(path) => File::open(path).and_then(|mut file| read(&mut file)),
         };
         bytes.map_err(|error| {
             Failure::Wrong(format!("cannot read {}: {}", self.shown(), plain(&error)))
@@ -108,18 +109,10 @@ fn up_to(file: &mut dyn Read, limit: u64) -> io::Result<Vec<u8>> {
 fn lent(file: &mut dyn Read) -> io::Result<Vec<u8>> {
     const HEADER: u64 = 16;
     let mut bytes = up_to(file, HEADER)?;
-    let counts = bytes.get(8..16).filter(|_| is_table(&bytes)).map(|counts| {
-        let [derived, rows] = [0, 4].map(|at| {
-            u64::from(u32::from_le_bytes([
-                counts[at],
-                counts[at + 1],
-                counts[at + 2],
-                counts[at + 3],
-            ]))
-        });
-        16 + 17 * derived + 16 * rows
-    });
-    let limit = counts.unwrap_or(LIMITS.bytes as u64);
+    let limit = match bytes.get(8..16).filter(|_| is_table(&bytes)) {
+        Some(counts) => HEADER + 17 * low_first(&counts[..4]) + 16 * low_first(&counts[4..]),
+        None => LIMITS.bytes as u64,
+    };
     let mut rest = up_to(file, limit + 1 - HEADER)?;
     bytes.append(&mut rest);
     Ok(bytes)

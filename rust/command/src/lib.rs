@@ -46,7 +46,7 @@ pub const COMMANDS: &[Command] = &[
         arguments: (1, 1),
         options: &[Opt::Output, Opt::Names, Opt::NoNames],
         summary: "Prints a rota as text, which can be read, changed and packed again",
-        help: "",
+        help: TEXT_HELP,
         run: convert::text,
     },
     Command {
@@ -55,8 +55,7 @@ pub const COMMANDS: &[Command] = &[
         arguments: (1, 1),
         options: &[Opt::Output],
         summary: "Makes the bytes of a rota from its text",
-        help: "With -o OUT the names of the text are kept in OUT.names. Nothing is written unless the library\n\
-               accepts the rota.",
+        help: TEXT_HELP,
         run: convert::pack,
     },
     Command {
@@ -106,7 +105,7 @@ pub const COMMANDS: &[Command] = &[
     },
     Command {
         name: "week",
-        takes: "FILE [DATE]",
+        takes: "FILE [DATE] [--html OUT]",
         arguments: (1, 4),
         options: &[Opt::Html, Opt::Right, Opt::Volunteer, Opt::Names, Opt::NoNames],
         summary: "Shows a week: who may use each right, and when",
@@ -116,6 +115,24 @@ pub const COMMANDS: &[Command] = &[
         run: week::week,
     },
 ];
+
+const TEXT_HELP: &str = "A text is like this one. Names can be left out; # begins a comment.
+
+    rota format 1
+    cycle 1 week
+    hours 0 opening
+        dates from Mon 2001-01-01 00:00 to the end of 2400
+        open from Mon 09:00 to before Mon 18:00
+    volunteer 0 coordinator
+    volunteer 1
+    right 0 \"read a record\"
+    role 0 reader in opening
+    coordinator is reader in opening
+    volunteer 1 is reader always
+    \"read a record\" to role 0 always
+
+The bytes of a rota have no names: pack -o OUT keeps them in OUT.names. It writes nothing unless the library
+accepts the rota.";
 
 const WHEN_HELP: &str = "VOLUNTEER and RIGHT are numbers or names. WHEN is 2024-03-03 14:00, or a number of minutes from\n\
      2001-01-01 00:00 on. It is by the archive's clock, which keeps no summer time.";

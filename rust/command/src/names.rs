@@ -25,6 +25,11 @@ impl Kind {
         ["hours", "volunteer", "right", "role"][self as usize]
     }
 
+    /// `there is no role`, `there are no hours`.
+    pub fn there_is_no(self) -> String {
+        format!("there {} no {}", if self == Kind::Hours { "are" } else { "is" }, self.word())
+    }
+
     /// So many of them.
     pub fn counted(self, count: u32) -> String {
         counted(count, self.word())
@@ -173,7 +178,7 @@ impl Names {
         self.find(kind, name).ok_or_else(|| {
             let known: Vec<String> = self.all(kind).map(|(_, name)| spelled(name)).collect();
             let hint = did_you_mean(name, known.iter().map(String::as_str));
-            format!("there is no {} named {}{hint}", kind.word(), spelled(&shown(name)))
+            format!("{} named {}{hint}", kind.there_is_no(), spelled(&shown(name)))
         })
     }
 
@@ -239,8 +244,8 @@ impl Head {
         cursor.expect(&["names", "of", "a", "rota", "with"])?;
         let mut counts = [0; 4];
         for kind in HEAD_ORDER {
-            let number =
-                cursor.number(&format!("the number of {}s", kind.word().trim_end_matches('s')))?;
+            let number = cursor
+                .number(format_args!("the number of {}s", kind.word().trim_end_matches('s')))?;
             let words = [1, 2].map(|count| counted(count, kind.word())[2..].to_string() + ",");
             if !words.iter().any(|word| cursor.take(word)) {
                 return Err(cursor.expected(&words[1]));
@@ -278,7 +283,7 @@ impl NamesFile {
             let Some(kind) = Kind::ALL.into_iter().find(|kind| cursor.take(kind.word())) else {
                 return Err(cursor.expected("hours, volunteer, right or role"));
             };
-            let number = cursor.number(&format!("the number of the {}", kind.word()))?;
+            let number = cursor.number(format_args!("the number of the {}", kind.word()))?;
             if number > 254 {
                 return Err(cursor.at(
                     line.words[1].column,
@@ -314,7 +319,7 @@ impl NamesFile {
             if let Some((number, name)) = last.filter(|&(number, _)| number >= count) {
                 let (word, name) = (kind.word(), spelled(name));
                 return Err(format!(
-                    "{word} {number} {name} is not there: there are {}",
+                    "{word} {number} {name} is not there: the file has {}",
                     kind.counted(count)
                 ));
             }

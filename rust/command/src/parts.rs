@@ -37,6 +37,11 @@ pub struct Parts {
     pub right_rows: Vec<Row>,
 }
 
+/// The number of some bytes, low byte first.
+pub fn low_first(bytes: &[u8]) -> u64 {
+    bytes.iter().rev().fold(0, |number, &byte| number << 8 | u64::from(byte))
+}
+
 /// Passes bytes from the front; past the end they are 0.
 struct Reader<'a>(&'a [u8]);
 
@@ -44,7 +49,7 @@ impl Reader<'_> {
     fn number(&mut self, width: usize) -> u32 {
         let (taken, rest) = self.0.split_at(width.min(self.0.len()));
         self.0 = rest;
-        taken.iter().rev().fold(0, |number, &byte| number << 8 | u32::from(byte))
+        low_first(taken) as u32
     }
 
     fn byte(&mut self) -> u8 {

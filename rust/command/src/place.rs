@@ -6,7 +6,7 @@ use std::fmt;
 use softlode::{Refusal, Table};
 
 use crate::names::Kind;
-use crate::parts::{ALWAYS, HEADER};
+use crate::parts::{ALWAYS, HEADER, low_first};
 use crate::when::{Cycle, END, Edge, LONGEST_CYCLE, date};
 use crate::words::counted;
 
@@ -61,7 +61,7 @@ pub fn find(bytes: &[u8], refusal: Refusal) -> Option<Fault> {
 
 /// The number of so many bytes, low byte first.
 fn number(bytes: &[u8], at: usize, width: usize) -> u32 {
-    bytes[at..at + width].iter().rev().fold(0, |number, &byte| number << 8 | u32::from(byte))
+    low_first(&bytes[at..at + width]) as u32
 }
 
 /// The bytes, and the counts that the header has.
@@ -116,14 +116,15 @@ fn first_fault(bytes: &[u8]) -> Result<(), Fault> {
     let end = right_rows_at + 3 * right_rows as usize;
     if length != end {
         let rows = volunteer_rows + right_rows;
+        let (byte, how) = if length < end { (length, "ends") } else { (end, "goes on") };
         let what = format!(
-            "the file ends here, but by its counts it has {end} bytes: {roles_at} before the roles, {roles} for {}, \
-             {} for {}",
+            "the file {how} here, but by its counts it has {end} bytes: {roles_at} before the roles, \
+             {roles} for {}, {} for {}",
             counted(roles, "role"),
             3 * rows,
             counted(rows, "row")
         );
-        return fault(9, Part::File, length, what);
+        return fault(9, Part::File, byte, what);
     }
     for (role, at) in (roles_at..volunteer_rows_at).enumerate() {
         if let Some(what) = judge.hours_fault(at) {
@@ -245,9 +246,8 @@ impl Judge<'_> {
             }
             if end > cycle.0 {
                 let what = format!(
-                    "offset {offset} and length {length} end at {end}, past the cycle of {} ({})",
-                    counted(cycle.0, "minute"),
-                    cycle.words()
+                    "offset {offset} and length {length} end at minute {end}, past the cycle of {}",
+                    counted(cycle.0, "minute")
                 );
                 return fault(8, part, at, what);
             }

@@ -2,6 +2,8 @@
 
 use std::io::{self, ErrorKind, Read, Write};
 
+use softlode::Refusal;
+
 use crate::files::plain;
 
 /// Standard input, output and error, as a command has them.
@@ -43,6 +45,12 @@ impl Failure {
             ErrorKind::BrokenPipe => Failure::Closed,
             _ => Failure::Wrong(format!("cannot write to standard output: {}", plain(&error))),
         }
+    }
+}
+
+impl From<Refusal> for Failure {
+    fn from(refusal: Refusal) -> Failure {
+        Failure::Refused(refusal.to_string())
     }
 }
 

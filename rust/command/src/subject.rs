@@ -5,7 +5,7 @@ use std::path::PathBuf;
 use softlode::{Lent, Refusal, Rota, Table};
 
 use crate::args::Call;
-use crate::files::{Place, is_table};
+use crate::files::{Source, is_table};
 use crate::names::{Counts, Kind, Names, NamesFile, counts_of, sum};
 use crate::place;
 use crate::progress::Progress;
@@ -21,16 +21,25 @@ pub enum Judged<'a> {
 
 /// The bytes that were read, and from where.
 pub struct Subject {
-    pub place: Place,
+    pub source: Source,
     pub bytes: Vec<u8>,
 }
 
 impl Subject {
     /// Reads the first argument of a call.
     pub fn read(call: &Call, io: &mut Io) -> Result<Subject, Failure> {
-        let place = Place::of(&call.arguments[0]);
-        let bytes = place.read_lent(io)?;
-        Ok(Subject { place, bytes })
+        let source = Source::of(&call.arguments[0]);
+        if source == Source::Standard
+            && call.names.as_deref().map(Source::of) == Some(Source::Standard)
+        {
+            let what = "standard input cannot be both a rota and its names";
+            return Err(Failure::Wrong(what.into()));
+        }
+        let is_file = source != Source::Standard;
+        let progress = Progress::begin(io.complaints_are_terminal && is_file, "reading the file");
+        let bytes = source.read_lent(io)?;
+        drop(progress);
+        Ok(Subject { source, bytes })
     }
 
     /// The rota that it is, or a refusal with its place.
@@ -48,13 +57,13 @@ impl Subject {
     }
 
     fn refused(&self, refusal: Refusal) -> Failure {
-        Failure::Refused(format!("{}: {}", self.place.shown(), explained(&self.bytes, refusal)))
+        Failure::Refused(format!("{}: {}", self.source.shown(), explained(&self.bytes, refusal)))
     }
 
     /// The names beside it, or those that the call names. Names that do not fit are no names: on the
     /// wrong number a name is how a rota is misread.
     pub fn names(&self, call: &Call, judged: Judged, io: &mut Io) -> Result<Names, Failure> {
-        let Some((path, file)) = find_names(&self.place, call, io)? else {
+        let Some((path, file)) = find_names(&self.source, call, io)? else {
             return Ok(Names::default());
         };
         let (counts, sum) = match judged {
@@ -65,7 +74,7 @@ impl Subject {
             Judged::Table(table) => (counts_of_table(&table), None),
         };
         file.fits(counts, sum).map_err(|why| {
-            let what = format!("the names of {path} do not fit {}: {why}", self.place.shown());
+            let what = format!("the names of {path} do not fit {}: {why}", self.source.shown());
             Failure::Wrong(format!("{what} (--no-names does without)"))
         })?;
         if matches!(judged, Judged::Table(_)) && file.head.is_some() {
@@ -92,7 +101,7 @@ pub fn explained(bytes: &[u8], refusal: Refusal) -> String {
 
 /// The names file of a call, if there is one, and where it was found.
 fn find_names(
-    place: &Place,
+    source: &Source,
     call: &Call,
     io: &mut Io,
 ) -> Result<Option<(String, NamesFile)>, Failure> {
@@ -100,15 +109,12 @@ fn find_names(
         return Ok(None);
     }
     let file = match &call.names {
-        Some(path) => Place::of(path),
-        None => match place.names().filter(|path| is_there(path)) {
-            Some(path) => Place::File(path),
+        Some(path) => Source::of(path),
+        None => match source.names().filter(|path| is_there(path)) {
+            Some(path) => Source::File(path),
             None => return Ok(None),
         },
     };
-    if (&file, place) == (&Place::Standard, &Place::Standard) {
-        return Err(Failure::Wrong("standard input cannot be both a rota and its names".into()));
-    }
     let bytes = file.read_text(io)?;
     let names = words::text(&bytes).and_then(NamesFile::parse);
     let names =
@@ -141,9 +147,7 @@ impl<'a> Judged<'a> {
             Judged::Table(table) => Ok(table.bytes().into()),
             Judged::Rota(rota) => {
                 let _progress = Progress::begin(io.complaints_are_terminal, "rewriting the rota");
-                let bytes =
-                    rewritten(rota).map_err(|refusal| Failure::Refused(refusal.to_string()))?;
-                Ok(bytes.into())
+                Ok(rewritten(rota)?.into())
             }
         }
     }

@@ -134,7 +134,7 @@ impl Cycle {
                 return Err(wrong(cursor));
             }
             let here = cursor.clone();
-            let number = cursor.number(&format!("the number of the {unit}"))?;
+            let number = cursor.number(format_args!("the number of the {unit}"))?;
             if !(1..=count).contains(&number) {
                 let what =
                     format!("there is no {unit} {number}: the cycle has {}", counted(count, unit));

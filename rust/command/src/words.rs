@@ -162,7 +162,7 @@ impl<'a> Cursor<'a> {
     }
 
     /// The next word, which is passed; or a complaint that names what should be there.
-    pub fn word(&mut self, expected: &str) -> Result<&'a Word<'a>, Complaint> {
+    pub fn word(&mut self, expected: impl fmt::Display) -> Result<&'a Word<'a>, Complaint> {
         let word = self.peek().ok_or_else(|| self.expected(expected))?;
         self.next += 1;
         Ok(word)
@@ -191,7 +191,7 @@ impl<'a> Cursor<'a> {
     }
 
     /// A number of digits; one that no field can hold is the highest that there is.
-    pub fn number(&mut self, expected: &str) -> Result<u32, Complaint> {
+    pub fn number(&mut self, expected: impl fmt::Display) -> Result<u32, Complaint> {
         let number = self.peek().filter(|word| !word.is_quoted).and_then(|word| digits(&word.text));
         let number = number.ok_or_else(|| self.expected(expected))?;
         self.next += 1;
@@ -218,7 +218,7 @@ impl<'a> Cursor<'a> {
     }
 
     /// A complaint that something else should be here.
-    pub fn expected(&self, what: &str) -> Complaint {
+    pub fn expected(&self, what: impl fmt::Display) -> Complaint {
         match self.peek() {
             Some(word) => self.here(format!("{what} is expected here, not {}", word.shown())),
             None => self.here(format!("{what} is missing at the end of the line")),

@@ -4,5 +4,5 @@
 mod parse;
 mod print;
 
-pub use parse::{Lines, Packed, Unpacked, pack};
+pub use parse::{Packed, Unpacked, pack};
 pub use print::print;

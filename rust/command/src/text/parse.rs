@@ -1,6 +1,6 @@
 //! Reads the text of a rota. Nothing has a default, and whatever is not known is a complaint.
 
-use softlode::{Refusal, Rota, RotaCounts};
+use softlode::{Refusal, Rota};
 
 use crate::hint::did_you_mean;
 use crate::names::{Kind, Names, is_bare, name};
@@ -13,7 +13,6 @@ use crate::words::{self, Complaint, Cursor, Line, Word, counted};
 #[derive(Clone, Debug)]
 pub struct Packed {
     pub bytes: Vec<u8>,
-    pub counts: RotaCounts,
     pub names: Names,
 }
 
@@ -46,37 +45,28 @@ impl From<Complaint> for Unpacked {
 
 /// The lines of a text that say each part of the rota.
 #[derive(Clone, Debug, Default)]
-pub struct Lines {
-    pub cycle: usize,
+struct Lines {
+    cycle: usize,
     /// The line of each record, and those of its intervals.
-    pub hours: Vec<(usize, Vec<usize>)>,
-    pub roles: Vec<usize>,
-    pub volunteer_rows: Vec<usize>,
-    pub right_rows: Vec<usize>,
+    hours: Vec<(usize, Vec<usize>)>,
+    roles: Vec<usize>,
+    volunteer_rows: Vec<usize>,
+    right_rows: Vec<usize>,
 }
 
 impl Lines {
     /// The line of a part, and that of the one before it of its kind.
     fn of(&self, part: Part) -> Option<(usize, Option<usize>)> {
-        let lines = match part {
+        let (lines, number) = match part {
             Part::Header | Part::File => return Some((self.cycle, None)),
             Part::Hours { record } => return Some((self.hours.get(record)?.0, None)),
-            Part::Pair { record, .. } => &self.hours.get(record)?.1,
-            Part::Role(_) => &self.roles,
-            Part::VolunteerRow(_) => &self.volunteer_rows,
-            Part::RightRow(_) => &self.right_rows,
+            Part::Pair { record, pair } => (&self.hours.get(record)?.1, pair),
+            Part::Role(number) => (&self.roles, number),
+            Part::VolunteerRow(number) => (&self.volunteer_rows, number),
+            Part::RightRow(number) => (&self.right_rows, number),
         };
-        let (Part::Pair { pair: number, .. }
-        | Part::Role(number)
-        | Part::VolunteerRow(number)
-        | Part::RightRow(number)) = part
-        else {
-            return None;
-        };
-        Some((
-            *lines.get(number)?,
-            number.checked_sub(1).and_then(|before| lines.get(before).copied()),
-        ))
+        let before = number.checked_sub(1).and_then(|before| lines.get(before).copied());
+        Some((*lines.get(number)?, before))
     }
 }
 
@@ -85,7 +75,7 @@ pub fn pack(text: &str) -> Result<Packed, Unpacked> {
     let (parts, names, lines) = parse(text)?;
     let bytes = parts.bytes();
     match Rota::read(&bytes) {
-        Ok(rota) => Ok(Packed { counts: rota.counts(), names, bytes }),
+        Ok(_) => Ok(Packed { bytes, names }),
         Err(refusal) => {
             let fault = place::find(&bytes, refusal);
             let told = fault.and_then(|fault| {
@@ -232,7 +222,7 @@ impl<'a> Reader<'a> {
             UNITS.into_iter().find(|&(unit, _)| is(unit))
         };
         let Some((_, minutes)) = known(word) else {
-            let hint = did_you_mean(&word.text, ["minutes", "hours", "days", "weeks"]);
+            let hint = did_you_mean(&word.text, UNITS.map(|(unit, _)| unit));
             return Err(unit.here(unit.expected("minutes, hours, days or weeks").what + &hint));
         };
         let length = u64::from(count) * u64::from(minutes);
@@ -255,7 +245,7 @@ impl<'a> Reader<'a> {
         limit: u32,
     ) -> Result<u32, Complaint> {
         let here = cursor.clone();
-        let number = cursor.number(&format!("the number of the {}", kind.word()))?;
+        let number = cursor.number(format_args!("the number of the {}", kind.word()))?;
         if number != next {
             let why = match next {
                 0 => "the numbers begin with 0".to_string(),
@@ -324,21 +314,19 @@ impl<'a> Reader<'a> {
         cursor.expect(&["dates", "from"])?;
         let begin = when::read_date(cursor, Edge::Begin)?;
         cursor.expect(&["to"])?;
-        let here = cursor.clone();
+        let mut here = cursor.clone();
         let end = if cursor.take("the") {
             cursor.expect(&["end", "of", "2400"])?;
             when::END
         } else if cursor.take("before") {
+            here = cursor.clone();
             when::read_date(cursor, Edge::End)?
         } else {
             return Err(cursor.expected("before and a date, or the end of 2400,"));
         };
         if begin >= end {
-            let what = format!(
-                "the dates end at {}, not after they begin, at {}",
-                when::date(end),
-                when::date(begin)
-            );
+            let (begin, end) = (when::date(begin), when::date(end));
+            let what = format!("the dates end at {end}, not after they begin, at {begin}");
             return Err(here.here(what));
         }
         hours.dates = Some((begin, end));
@@ -417,7 +405,9 @@ impl<'a> Reader<'a> {
             let subject = reference(cursor, kind, line)?;
             let verb = verb(kind);
             if !cursor.take(verb) {
-                return Err(cursor.expected(&format!("a {} {verb} a role; {verb}", kind.word())));
+                return Err(
+                    cursor.expected(format_args!("a {} {verb} a role; {verb}", kind.word()))
+                );
             }
             return self.row(kind, subject, cursor, line);
         }
@@ -447,7 +437,7 @@ impl<'a> Reader<'a> {
                 let hint = did_you_mean(&first.text, STATEMENTS);
                 if hint.is_empty() {
                     return Err(
-                        after.expected(&format!("is or to after the name {}", first.shown()))
+                        after.expected(format_args!("is or to after the name {}", first.shown()))
                     );
                 }
                 return Err(cursor.here(format!("unknown word {}{hint}", first.shown())));
@@ -505,8 +495,8 @@ impl<'a> Reader<'a> {
                 Target::Name(name) => self.names.number(kind, name),
                 Target::Number(number) if number < count => Ok(number),
                 Target::Number(number) => Err(format!(
-                    "there is no {} {number}: the text has {}",
-                    kind.word(),
+                    "{} {number}: the text has {}",
+                    kind.there_is_no(),
                     kind.counted(count)
                 )),
             };
@@ -563,9 +553,9 @@ fn reference<'a>(
     let word = kind.word();
     let column = cursor.peek().map_or(line.end, |word| word.column);
     let target = if cursor.take(word) {
-        Target::Number(cursor.number(&format!("the number of the {word}"))?)
+        Target::Number(cursor.number(format_args!("the number of the {word}"))?)
     } else if cursor.peek().is_none() {
-        return Err(cursor.expected(&format!("a name, or {word} and a number,")));
+        return Err(cursor.expected(format_args!("a name, or {word} and a number,")));
     } else {
         Target::Name(name(cursor)?)
     };

@@ -3,7 +3,7 @@
 
 use super::model::{Run, Section, Turn};
 use super::terminal::moved;
-use super::times::{by_set, by_time, day, members};
+use super::times::{self, Times, by_set, by_time, day};
 use super::{Report, differences};
 use crate::names::Kind;
 use crate::when::{DAY, HOUR, WEEKDAYS, date};
@@ -30,19 +30,20 @@ fn is_no_character(c: char) -> bool {
     u32::from(c) & 0xfffe == 0xfffe || ('\u{fdd0}'..='\u{fdef}').contains(&c)
 }
 
-/// A name as it stands in a page. One that may be written from right to left does not turn around what
-/// is beside it.
-fn name(text: &str) -> String {
-    let name = escaped(text);
-    let may_turn = text.chars().any(|c| c >= '\u{590}');
-    if may_turn { format!("<bdi>{name}</bdi>") } else { name }
+/// A volunteer or a right as a page shows it. A name that may be written from right to left does not
+/// turn around what is beside it.
+fn shown(report: &Report, kind: Kind, number: u32) -> String {
+    match report.names.get(kind, number) {
+        Some(name) if name.chars().any(|c| c >= '\u{590}') => {
+            format!("<bdi>{}</bdi> ({number})", escaped(name))
+        }
+        _ => escaped(&report.names.shown(kind, number)),
+    }
 }
 
 /// All of a set.
 fn who(report: &Report, kind: Kind, set: u64) -> String {
-    let (named, bare) = members(&report.names, kind, set);
-    let named = named.iter().map(|one| name(one));
-    named.chain(bare).collect::<Vec<_>>().join(", ")
+    times::who(&report.names, kind, set, |number| shown(report, kind, number))
 }
 
 /// How a set is called in a picture: A to Z, then AA, AB and so on.
@@ -136,9 +137,15 @@ fn plural(kind: Kind) -> (&'static str, &'static str) {
     if kind == Kind::Right { ("rights", "Rights") } else { ("volunteers", "Volunteers") }
 }
 
+fn name(report: &Report, section: &Section) -> String {
+    shown(report, section.kind, section.number)
+}
+
 /// Links to sections.
 fn links<'a>(report: &Report, sections: impl Iterator<Item = &'a Section>) -> String {
-    let link = |section: &Section| format!("<a href=\"#{}\">{}</a>", anchor(section), name(&report.name(section)));
+    let link = |section: &Section| {
+        format!("<a href=\"#{}\">{}</a>", anchor(section), name(report, section))
+    };
     sections.map(link).collect::<Vec<_>>().join(", ")
 }
 
@@ -148,7 +155,10 @@ fn compared(report: &Report, groups: &[(Kind, Vec<Section>); 2]) -> String {
     for which in [0, 1] {
         let sections = || groups.iter().flat_map(|(_, sections)| sections);
         let differing = sections().filter(|section| section.differs(which));
-        text += &format!("<p>{}</p>\n", report.compared(which, sections().next(), links(report, differing)));
+        text += &format!(
+            "<p>{}</p>\n",
+            report.compared(which, sections().next(), links(report, differing))
+        );
     }
     text
 }
@@ -158,14 +168,19 @@ fn contents(report: &Report, groups: &[(Kind, Vec<Section>); 2]) -> String {
     let mut text = String::from("<nav aria-label=\"Contents\">\n");
     for (kind, sections) in groups.iter().filter(|(_, sections)| !sections.is_empty()) {
         let (id, heading) = plural(*kind);
-        text += &format!("<p><a href=\"#{id}\"><b>{heading}</b></a>: {}</p>\n", links(report, sections.iter()));
+        text += &format!(
+            "<p><a href=\"#{id}\"><b>{heading}</b></a>: {}</p>\n",
+            links(report, sections.iter())
+        );
     }
     text + "</nav>\n"
 }
 
 /// How the pictures are read.
 fn legend(report: &Report) -> String {
-    let mut text = String::from("<p class=\"legend\">\n<span>A letter leads to a row of the table. How many at once:</span>\n");
+    let mut text = String::from(
+        "<p class=\"legend\">\n<span>A letter leads to a row of the table. How many at once:</span>\n",
+    );
     for (i, least) in TONES.iter().enumerate() {
         let most = TONES.get(i + 1).map(|next| next - 1);
         let words = match most {
@@ -190,14 +205,17 @@ fn legend(report: &Report) -> String {
              height=\"4\" /></svg> {words}</span>\n"
         );
     }
-    text + &format!("<span>A bar above a block compares with {before}, one below with {after}.</span>\n</p>\n")
+    text + &format!(
+        "<span>A bar above a block compares with {before}, one below with {after}.</span>\n</p>\n"
+    )
 }
 
 /// A right or a volunteer.
 fn one(report: &Report, section: &Section) -> String {
-    let (id, title) = (anchor(section), name(&report.name(section)));
+    let (id, title) = (anchor(section), name(report, section));
     let rows = by_set(&section.runs, report.week.cycle);
-    let picture = picture(report, section, &|set| rows.iter().position(|row| row.0 == set).map(key));
+    let picture =
+        picture(report, section, &|set| rows.iter().position(|row| row.0 == set).map(key));
     format!(
         "<section class=\"one\" id=\"{id}\" aria-labelledby=\"{id}-name\">\n<h3 id=\"{id}-name\">{title}</h3>\n\
          <div class=\"pair\">\n<div>\n{picture}{}</div>\n<div>\n{}</div>\n</div>\n</section>\n",
@@ -209,7 +227,10 @@ fn one(report: &Report, section: &Section) -> String {
 /// A row of a picture: the part of the turn that it shows.
 fn rows(report: &Report) -> Vec<Turn> {
     let Turn { begin, end } = report.week.turn;
-    (begin..end).step_by(DAY as usize).map(|from| Turn { begin: from, end: (from + DAY).min(end) }).collect()
+    (begin..end)
+        .step_by(DAY as usize)
+        .map(|from| Turn { begin: from, end: (from + DAY).min(end) })
+        .collect()
 }
 
 /// From where the rows of a picture begin, and how high each is.
@@ -223,7 +244,8 @@ fn picture(report: &Report, section: &Section, key_of: &dyn Fn(u64) -> Option<St
     let is_of_days = report.week.cycle.is_of_days();
     let (id, title) = (anchor(section), escaped(&report.name(section)));
     let labels: String = rows.iter().map(|row| label(report, *row)).collect();
-    let (what, unit) = if is_of_days { ("Hours across, days down", "day") } else { ("Minutes across", "row") };
+    let (what, unit) =
+        if is_of_days { ("Hours across, days down", "day") } else { ("Minutes across", "row") };
     let mut svg = format!(
         "<figure>\n<div class=\"picture\">\n<div class=\"days\" aria-hidden=\"true\">\n{labels}</div>\n\
          <svg role=\"img\" aria-labelledby=\"{id}-title {id}-desc\" width=\"100%\" height=\"{}\">\n\
@@ -246,7 +268,9 @@ fn picture(report: &Report, section: &Section, key_of: &dyn Fn(u64) -> Option<St
             let here = against.here.iter().map(|run| (*run, "here"));
             for (run, class) in here.chain(there) {
                 if let Some((x, width)) = place(&run, *row, across) {
-                    svg += &format!("<rect class=\"{class}\" x=\"{x}%\" y=\"{y}\" width=\"{width}%\" height=\"4\" />\n");
+                    svg += &format!(
+                        "<rect class=\"{class}\" x=\"{x}%\" y=\"{y}\" width=\"{width}%\" height=\"4\" />\n"
+                    );
                 }
             }
         }
@@ -267,13 +291,16 @@ fn label(report: &Report, row: Turn) -> String {
 
 /// The lines of a picture, and its hours, or its minutes where a row is no day.
 fn axis(across: u32, is_of_days: bool, rows: usize) -> String {
-    const STEPS: [u32; 13] = [1, 2, 5, 10, 15, 20, 30, HOUR, 2 * HOUR, 3 * HOUR, 4 * HOUR, 6 * HOUR, 12 * HOUR];
+    const STEPS: [u32; 13] =
+        [1, 2, 5, 10, 15, 20, 30, HOUR, 2 * HOUR, 3 * HOUR, 4 * HOUR, 6 * HOUR, 12 * HOUR];
     let step = STEPS.into_iter().find(|step| across <= 8 * step).unwrap_or(DAY);
     let bottom = TOP + ROW * rows;
     let mut svg = String::new();
     for at in (0..=across).step_by(step as usize) {
         let x = percent(at, across);
         let number = if is_of_days { at / HOUR } else { at };
+        // On a telephone there is not room for all of the longer ones.
+        let class = if number > 99 && at / step % 2 == 1 { " class=\"wide\"" } else { "" };
         let anchor = match at {
             0 => "start",
             _ if at == across => "end",
@@ -281,7 +308,7 @@ fn axis(across: u32, is_of_days: bool, rows: usize) -> String {
         };
         svg += &format!(
             "<line x1=\"{x}%\" y1=\"{TOP}\" x2=\"{x}%\" y2=\"{bottom}\" />\
-             <text x=\"{x}%\" y=\"12\" text-anchor=\"{anchor}\">{number}</text>\n"
+             <text{class} x=\"{x}%\" y=\"12\" text-anchor=\"{anchor}\">{number}</text>\n"
         );
     }
     for row in 0..=rows {
@@ -320,7 +347,7 @@ fn block(
         let middle = percent((begin - row.begin) + (end - row.begin), 2 * across);
         format!("<text{class} x=\"{middle}%\" y=\"{}\">{key}</text>", y + ROW / 2 + 4)
     });
-    let times = super::times::Times::Through { begin: run.begin, end: run.end }.words(report.week.cycle);
+    let times = Times::Through { begin: run.begin, end: run.end }.words(report.week.cycle);
     Some(format!(
         "<g class=\"t{}\"><title>{key}: {times}</title><rect x=\"{x}%\" y=\"{}\" width=\"{width}%\" height=\"{}\" rx=\"2\" />{}</g>\n",
         tone(run.set),
@@ -331,8 +358,8 @@ fn block(
 }
 
 /// The exact times: for each set, when and who.
-fn table(report: &Report, section: &Section, rows: &[(u64, Vec<super::times::Times>)]) -> String {
-    let title = name(&report.name(section));
+fn table(report: &Report, section: &Section, rows: &[(u64, Vec<Times>)]) -> String {
+    let title = name(report, section);
     if rows.is_empty() {
         let nobody = if section.kind == Kind::Right { "Nobody" } else { "Nothing" };
         return format!("<p>{nobody} in this {}.</p>\n", report.unit());
@@ -343,8 +370,10 @@ fn table(report: &Report, section: &Section, rows: &[(u64, Vec<super::times::Tim
          <th scope=\"col\">{others}</th></tr></thead>\n<tbody>\n"
     );
     for (i, (set, times)) in rows.iter().enumerate() {
-        let times: String =
-            times.iter().map(|times| format!("<li>{}</li>", dated(&times.words(report.week.cycle)))).collect();
+        let times: String = times
+            .iter()
+            .map(|times| format!("<li>{}</li>", dated(&times.words(report.week.cycle))))
+            .collect();
         text += &format!(
             "<tr><th scope=\"row\" class=\"k\"><i class=\"t{}\">{}</i></th><td><ul>{times}</ul></td><td>{}</td></tr>\n",
             tone(*set),

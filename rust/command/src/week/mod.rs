@@ -13,9 +13,9 @@ use std::time::{SystemTime, UNIX_EPOCH};
 
 use softlode::{LAST_MINUTE, Table};
 
-use crate::answer::refused;
+use crate::answer::minute_of;
 use crate::args::Call;
-use crate::files::{Pending, Place};
+use crate::files::{Pending, Source};
 use crate::names::{Kind, Names};
 use crate::parts::Parts;
 use crate::progress::Progress;
@@ -29,22 +29,22 @@ use times::{date_of_end, day, listed};
 /// Shows a week, or writes it as a page.
 pub fn week(call: &Call, io: &mut Io) -> Result<Status, Failure> {
     let today = if call.arguments.len() == 1 { Some(today()?) } else { None };
-    let minute = today.map_or_else(|| minute_of(call), Ok)?;
-    softlode::date(minute).map_err(refused)?;
+    let minute = today.map_or_else(|| minute(call), Ok)?;
+    softlode::date(minute)?;
     let subject = Subject::read(call, io)?;
     let judged = subject.judged()?;
     let names = subject.names(call, judged, io)?;
     let bytes = judged.table(io)?;
-    let table = Table::read(&bytes).map_err(refused)?;
+    let table = Table::read(&bytes)?;
     let cuts = match judged {
         Judged::Rota(rota) => Cuts::of_rota(&Parts::of(&rota)),
         Judged::Table(table) => Cuts::of_table(&table),
     };
     let progress = Progress::begin(io.complaints_are_terminal, "asking for the boards");
-    let week = Week::of(&table, &cuts, minute).map_err(refused)?;
+    let week = Week::of(&table, &cuts, minute)?;
     drop(progress);
     let chosen = chosen(call, &week, &names)?;
-    let source = source(&subject.place);
+    let source = source(&subject.source);
     let report = Report { week, names, source, by: judged.by(), today, chosen };
     let Some(out) = &call.html else {
         let look = io.output_is_terminal.then(terminal::Look::here);
@@ -52,9 +52,9 @@ pub fn week(call: &Call, io: &mut Io) -> Result<Status, Failure> {
         return Ok(Status::Done);
     };
     let page = html::page(&report);
-    match Place::of(out) {
-        Place::Standard => io.print(page)?,
-        Place::File(path) => {
+    match Source::of(out) {
+        Source::Standard => io.print(page)?,
+        Source::File(path) => {
             Pending::write(&path, page.as_bytes())?.commit()?;
             io.print(format!("wrote {}: the {}\n", path.display(), report.title()))?;
         }
@@ -63,17 +63,14 @@ pub fn week(call: &Call, io: &mut Io) -> Result<Status, Failure> {
 }
 
 /// The minute that the arguments name; a day alone is meant from its beginning.
-fn minute_of(call: &Call) -> Result<u32, Failure> {
-    let mut words: Vec<String> = (1..call.arguments.len()).map(|i| call.text(i)).collect();
-    let is_day = words.last().is_some_and(|word| {
-        let last = word.split_whitespace().next_back().unwrap_or("");
-        last.bytes().filter(|&byte| byte == b'-').count() == 2 && !last.contains(':')
-    });
+fn minute(call: &Call) -> Result<u32, Failure> {
+    let text = (1..call.arguments.len()).map(|i| call.text(i)).collect::<Vec<_>>().join(" ");
+    let last = text.split_whitespace().next_back().unwrap_or("");
+    let is_day = last.matches('-').count() == 2 && !last.contains(':');
     if is_day {
-        words.push("00:00".into());
+        return read_when(&[&text, "00:00"]).map_err(Failure::Wrong);
     }
-    let words: Vec<&str> = words.iter().map(String::as_str).collect();
-    read_when(&words).map_err(Failure::Wrong)
+    minute_of(call, 1)
 }
 
 /// The minute that it is by the computer's clock, in UTC.
@@ -107,10 +104,10 @@ fn chosen(call: &Call, week: &Week, names: &Names) -> Result<Option<Vec<(Kind, u
 }
 
 /// What the file is called, without the folders that it is in.
-fn source(place: &Place) -> String {
-    match place {
-        Place::Standard => place.shown(),
-        Place::File(path) => {
+fn source(source: &Source) -> String {
+    match source {
+        Source::Standard => source.shown(),
+        Source::File(path) => {
             shown(&Path::new(path).file_name().unwrap_or(path.as_os_str()).to_string_lossy())
         }
     }
@@ -193,7 +190,8 @@ impl Report {
                 .into(),
         );
         let (before, within, after) = &self.week.changes;
-        let dates = |minutes: &[u32]| listed(&minutes.iter().map(|&at| date(at)).collect::<Vec<_>>());
+        let dates =
+            |minutes: &[u32]| listed(&minutes.iter().map(|&at| date(at)).collect::<Vec<_>>());
         let mut changes = Vec::new();
         if !within.is_empty() {
             changes.push(format!("in this {unit} on {}", dates(within)));
@@ -220,7 +218,10 @@ impl Report {
         let Some(section) = known else { return format!("Nothing is shown of {beside}.") };
         let Some(against) = &section.against[which] else {
             let ends = ["2001 begins", "2400 ends"][which];
-            return format!("There is no {unit} {}: {ends} with this one.", ["before", "after"][which]);
+            return format!(
+                "There is no {unit} {}: {ends} with this one.",
+                ["before", "after"][which]
+            );
         };
         let [here, there] = [self.week.turn, against.turn].map(Turn::length);
         let so_far = match here.cmp(&there) {
@@ -237,15 +238,14 @@ impl Report {
 
 /// What a list of differences is called, as far as it is not of those beside: what is here alone, and
 /// what is there alone.
-pub fn differences<'a>(
-    report: &Report,
-    section: &'a Section,
-) -> Vec<(String, &'a [Run])> {
+pub fn differences<'a>(report: &Report, section: &'a Section) -> Vec<(String, &'a [Run])> {
     let mut all = Vec::new();
     for (which, against) in section.against.iter().enumerate() {
         let Some(against) = against else { continue };
         let beside = report.beside(which);
-        for (name, runs) in [(format!("not {beside}"), &against.here), (format!("{beside} also"), &against.there)] {
+        for (name, runs) in
+            [(format!("not {beside}"), &against.here), (format!("{beside} also"), &against.there)]
+        {
             if !runs.is_empty() {
                 all.push((name, runs.as_slice()));
             }

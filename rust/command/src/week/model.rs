@@ -52,8 +52,12 @@ impl Cuts {
     fn within(&self, turn: Turn) -> Vec<u32> {
         let positions = self.positions.iter().map(|position| turn.begin + position);
         let dates = self.dates.range(turn.begin..turn.end).copied();
-        let all: BTreeSet<u32> = positions.filter(|&minute| minute < turn.end).chain(dates).collect();
-        [turn.begin].into_iter().chain(all.into_iter().filter(|&minute| minute > turn.begin)).collect()
+        let all: BTreeSet<u32> =
+            positions.filter(|&minute| minute < turn.end).chain(dates).collect();
+        [turn.begin]
+            .into_iter()
+            .chain(all.into_iter().filter(|&minute| minute > turn.begin))
+            .collect()
     }
 }
 
@@ -113,7 +117,8 @@ fn without(runs: &[Run], others: &[Run], by: i64) -> Vec<Run> {
             first += 1;
         }
         for other in &others[first..] {
-            let (begin, end) = (moved(other.begin).clamp(at, run.end), moved(other.end).min(run.end));
+            let (begin, end) =
+                (moved(other.begin).clamp(at, run.end), moved(other.end).min(run.end));
             if begin >= run.end {
                 break;
             }
@@ -224,9 +229,9 @@ impl Week {
     pub fn of(table: &Table, cuts: &Cuts, minute: u32) -> Result<Week, Refusal> {
         let counts = table.counts();
         let turn = Turn::of(minute, cuts.cycle);
-        let [before, after] = turn.beside(cuts.cycle).map(|beside| {
-            beside.map(|beside| Stretches::of(table, cuts, beside)).transpose()
-        });
+        let [before, after] = turn
+            .beside(cuts.cycle)
+            .map(|beside| beside.map(|beside| Stretches::of(table, cuts, beside)).transpose());
         // Nothing changes with the first minute of time, or after the last.
         let dates = |from: u32, to: u32| cuts.dates.range(from.max(1)..to.max(1)).copied();
         Ok(Week {

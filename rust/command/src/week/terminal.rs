@@ -23,7 +23,10 @@ impl Look {
         let locale = ["LC_ALL", "LC_CTYPE", "LANG"].iter().find_map(set).unwrap_or_default();
         let locale = locale.to_lowercase();
         let is_utf_8 = locale.contains("utf-8") || locale.contains("utf8");
-        Look { width: width::columns(), blocks: if is_utf_8 { ['·', '▒', '█'] } else { ['.', '+', '#'] } }
+        Look {
+            width: width::columns(),
+            blocks: if is_utf_8 { ['·', '▒', '█'] } else { ['.', '+', '#'] },
+        }
     }
 }
 
@@ -44,7 +47,11 @@ impl Lines {
         let room = width.saturating_sub(INDENT);
         if !report.week.cycle.is_of_days() {
             let room = room.saturating_sub(2).max(1) as u32;
-            return Lines { parts: vec![turn], cell: turn.length().div_ceil(room), bar: turn.length() };
+            return Lines {
+                parts: vec![turn],
+                cell: turn.length().div_ceil(room),
+                bar: turn.length(),
+            };
         }
         const WEEK: u32 = 7;
         let days = turn.length() / DAY;
@@ -105,7 +112,8 @@ impl Lines {
                     let Some(against) = &section.against[which] else { return false };
                     let by = i64::from(report.week.turn.begin) - i64::from(against.turn.begin);
                     let there = |run: &Run| common(&moved(run, by), begin, end) > 0;
-                    against.here.iter().any(|run| common(run, begin, end) > 0) || against.there.iter().any(there)
+                    against.here.iter().any(|run| common(run, begin, end) > 0)
+                        || against.there.iter().any(there)
                 });
                 match (before, after) {
                     (false, false) => ' ',
@@ -179,7 +187,8 @@ pub fn print(report: &Report, look: Option<&Look>) -> String {
         .into_iter()
         .flat_map(|kind| report.sections(kind, &kinds))
         .collect();
-    let mut text = wrapped(0, &format!("The {}, by {}{}", report.title(), report.source, report.by), look);
+    let mut text =
+        wrapped(0, &format!("The {}, by {}{}", report.title(), report.source, report.by), look);
     for remark in report.remarks() {
         text += &wrapped(0, &remark, look);
     }
@@ -205,7 +214,8 @@ pub fn print(report: &Report, look: Option<&Look>) -> String {
 fn times(report: &Report, section: &Section, look: Option<&Look>) -> String {
     let (cycle, others) = (report.week.cycle, section.others());
     let line = |(times, set): (super::times::Times, u64)| {
-        format!("{}: {}", times.words(cycle), who(&report.names, others, set))
+        let shown = |number| report.names.shown(others, number);
+        format!("{}: {}", times.words(cycle), who(&report.names, others, set, shown))
     };
     let mut text = String::new();
     if section.runs.is_empty() {

@@ -57,7 +57,11 @@ pub fn day(minute: u32) -> String {
 
 /// The date before which something ends; midnight is 24:00 of the day before.
 pub fn date_of_end(minute: u32) -> String {
-    if minute % DAY == 0 && minute > 0 { format!("{} 24:00", day(minute - 1)) } else { date(minute) }
+    if minute % DAY == 0 && minute > 0 {
+        format!("{} 24:00", day(minute - 1))
+    } else {
+        date(minute)
+    }
 }
 
 /// `Mon 2024-02-26 to Wed 2024-02-28 and Fri 2024-03-01`.
@@ -135,20 +139,15 @@ pub fn by_time(runs: &[Run], cycle: Cycle) -> Vec<(Times, u64)> {
     all
 }
 
-/// Those of a set who have names, each with it, and the numbers of those who have none.
-pub fn members(names: &Names, kind: Kind, set: u64) -> (Vec<String>, Option<String>) {
+/// All of a set: `Ruth (5), volunteers 2, 7`. Those who have names come first, each as it is shown by
+/// its number.
+pub fn who(names: &Names, kind: Kind, set: u64, shown: impl Fn(u32) -> String) -> String {
     let (named, bare): (Vec<u32>, Vec<u32>) = (0..64)
         .filter(|number| set >> number & 1 == 1)
         .partition(|&number| names.get(kind, number).is_some());
-    let named = named.into_iter().map(|number| names.shown(kind, number)).collect();
     let plural = if bare.len() == 1 { "" } else { "s" };
     let numbers: Vec<String> = bare.iter().map(u32::to_string).collect();
-    let bare = format!("{}{plural} {}", kind.word(), numbers.join(", "));
-    (named, (!numbers.is_empty()).then_some(bare))
-}
-
-/// All of a set: `Ruth (5), volunteers 2, 7`.
-pub fn who(names: &Names, kind: Kind, set: u64) -> String {
-    let (named, bare) = members(names, kind, set);
-    named.into_iter().chain(bare).collect::<Vec<_>>().join(", ")
+    let bare =
+        (!bare.is_empty()).then(|| format!("{}{plural} {}", kind.word(), numbers.join(", ")));
+    named.into_iter().map(shown).chain(bare).collect::<Vec<_>>().join(", ")
 }

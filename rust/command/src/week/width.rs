@@ -35,5 +35,7 @@ mod system {
 pub fn columns() -> usize {
     let said = std::env::var("COLUMNS").ok().and_then(|said| said.trim().parse().ok());
     let seen = || system::window().map(|window| usize::from(window.columns));
-    said.filter(|&columns| columns > 0).or_else(|| seen().filter(|&columns| columns > 0)).unwrap_or(80)
+    said.filter(|&columns| columns > 0)
+        .or_else(|| seen().filter(|&columns| columns > 0))
+        .unwrap_or(80)
 }
