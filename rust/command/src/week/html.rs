@@ -1,6 +1,8 @@
 //! A week as a page: one file, without network and without script, for a screen, a telephone, paper
 //! and a screen reader. It is well-formed XML as well.
 
+use std::collections::HashMap;
+
 use super::model::{Run, Section, Turn};
 use super::terminal::moved;
 use super::times::{self, Times, by_set, by_time, day};
@@ -30,8 +32,8 @@ fn is_no_character(c: char) -> bool {
     u32::from(c) & 0xfffe == 0xfffe || ('\u{fdd0}'..='\u{fdef}').contains(&c)
 }
 
-/// A volunteer or a right as a page shows it. A name that may be written from right to left does not
-/// turn around what is beside it.
+/// A volunteer or a right as a page shows it. A name that may be written from right to left does
+/// not turn around what is beside it.
 fn shown(report: &Report, kind: Kind, number: u32) -> String {
     match report.names.get(kind, number) {
         Some(name) if name.chars().any(|c| c >= '\u{590}') => {
@@ -65,7 +67,7 @@ fn tone(set: u64) -> usize {
     TONES.iter().filter(|&&least| set.count_ones() >= least).count()
 }
 
-/// Words of times as they stand in a page: a weekday is not parted from its date, nor a date within.
+/// Words of times as they stand in a page: a weekday and its date stay on one line.
 fn dated(words: &str) -> String {
     let mut text = String::new();
     let mut words = words.split(' ').peekable();
@@ -100,10 +102,11 @@ pub fn page(report: &Report) -> String {
     let title = report.title();
     let counts = [Kind::Right, Kind::Volunteer].map(|kind| kind.counted(report.week.count(kind)));
     let mut page = format!(
-        "<!DOCTYPE html>\n<html lang=\"en\">\n<head>\n<meta charset=\"utf-8\" />\n\
-         <meta name=\"viewport\" content=\"width=device-width, initial-scale=1\" />\n\
+        "<!DOCTYPE html>\n<html lang='en'>\n<head>\n<meta charset='utf-8' />\n\
+         <meta name='viewport' content='width=device-width, initial-scale=1' />\n\
          <title>{source}: {title}</title>\n<style>\n{css}</style>\n</head>\n<body>\n<header>\n\
-         <h1>Who may do what in the {dated_title}</h1>\n<p>By {source}{by}: {counts}, a cycle of {cycle}. {remarks}</p>\n",
+         <h1>Who may do what in the {dated_title}</h1>\n\
+         <p>By {source}{by}: {counts}, a cycle of {cycle}. {remarks}</p>\n",
         source = escaped(&report.source),
         dated_title = dated(&title),
         css = include_str!("page.css"),
@@ -121,13 +124,14 @@ pub fn page(report: &Report) -> String {
             continue;
         }
         let (id, heading) = plural(*kind);
-        page += &format!("<h2 id=\"{id}\">{heading}</h2>\n<div class=\"{id}\">\n");
+        page += &format!("<h2 id='{id}'>{heading}</h2>\n<div class='{id}'>\n");
         page.extend(sections.iter().map(|section| one(report, section)));
         page += "</div>\n";
     }
     page += &format!(
-        "</main>\n<footer><p><small>Made by softlode {}. Every time here is asked of the proved library, at each minute at which \
-         something can change.</small></p></footer>\n</body>\n</html>\n",
+        "</main>\n<footer><p><small>Made by softlode {}. Every time here is asked of the proved \
+         library, at each minute at which something can change.</small></p></footer>\n\
+         </body>\n</html>\n",
         env!("CARGO_PKG_VERSION")
     );
     page
@@ -143,9 +147,8 @@ fn name(report: &Report, section: &Section) -> String {
 
 /// Links to sections.
 fn links<'a>(report: &Report, sections: impl Iterator<Item = &'a Section>) -> String {
-    let link = |section: &Section| {
-        format!("<a href=\"#{}\">{}</a>", anchor(section), name(report, section))
-    };
+    let link =
+        |section: &Section| format!("<a href='#{}'>{}</a>", anchor(section), name(report, section));
     sections.map(link).collect::<Vec<_>>().join(", ")
 }
 
@@ -165,11 +168,11 @@ fn compared(report: &Report, groups: &[(Kind, Vec<Section>); 2]) -> String {
 
 /// Everything that is on the page, to go there.
 fn contents(report: &Report, groups: &[(Kind, Vec<Section>); 2]) -> String {
-    let mut text = String::from("<nav aria-label=\"Contents\">\n");
+    let mut text = String::from("<nav aria-label='Contents'>\n");
     for (kind, sections) in groups.iter().filter(|(_, sections)| !sections.is_empty()) {
         let (id, heading) = plural(*kind);
         text += &format!(
-            "<p><a href=\"#{id}\"><b>{heading}</b></a>: {}</p>\n",
+            "<p><a href='#{id}'><b>{heading}</b></a>: {}</p>\n",
             links(report, sections.iter())
         );
     }
@@ -179,7 +182,8 @@ fn contents(report: &Report, groups: &[(Kind, Vec<Section>); 2]) -> String {
 /// How the pictures are read.
 fn legend(report: &Report) -> String {
     let mut text = String::from(
-        "<p class=\"legend\">\n<span>A letter leads to a row of the table. How many at once:</span>\n",
+        "<p class='legend'>\n\
+         <span>A letter leads to a row of the table. How many at once:</span>\n",
     );
     for (i, least) in TONES.iter().enumerate() {
         let most = TONES.get(i + 1).map(|next| next - 1);
@@ -189,8 +193,9 @@ fn legend(report: &Report) -> String {
             None => format!("{least} or more"),
         };
         text += &format!(
-            "<span><svg width=\"22\" height=\"14\" aria-hidden=\"true\"><g class=\"t{}\">\
-             <rect x=\"1\" y=\"1\" width=\"20\" height=\"12\" rx=\"2\" /></g></svg> {words}</span>\n",
+            "<span><svg width='22' height='14' aria-hidden='true'><g class='t{}'>\
+             <rect x='1' y='1' width='20' height='12' rx='2' /></g></svg> \
+             {words}</span>\n",
             i + 1
         );
     }
@@ -201,8 +206,8 @@ fn legend(report: &Report) -> String {
         ("there", format!("in the other {unit}, not here")),
     ] {
         text += &format!(
-            "<span><svg width=\"22\" height=\"6\" aria-hidden=\"true\"><rect class=\"{class}\" x=\"1\" y=\"1\" width=\"20\" \
-             height=\"4\" /></svg> {words}</span>\n"
+            "<span><svg width='22' height='6' aria-hidden='true'>\
+             <rect class='{class}' x='1' y='1' width='20' height='4' /></svg> {words}</span>\n"
         );
     }
     text + &format!(
@@ -214,68 +219,118 @@ fn legend(report: &Report) -> String {
 fn one(report: &Report, section: &Section) -> String {
     let (id, title) = (anchor(section), name(report, section));
     let rows = by_set(&section.runs, report.week.cycle);
-    let picture =
-        picture(report, section, &|set| rows.iter().position(|row| row.0 == set).map(key));
+    let keys = (0..).zip(&rows).map(|(i, row)| (row.0, key(i))).collect();
     format!(
-        "<section class=\"one\" id=\"{id}\" aria-labelledby=\"{id}-name\">\n<h3 id=\"{id}-name\">{title}</h3>\n\
-         <div class=\"pair\">\n<div>\n{picture}{}</div>\n<div>\n{}</div>\n</div>\n</section>\n",
+        "<section class='one' id='{id}' aria-labelledby='{id}-name'>\n\
+         <h3 id='{id}-name'>{title}</h3>\n\
+         <div class='pair'>\n<div>\n{}{}</div>\n<div>\n{}</div>\n</div>\n</section>\n",
+        Picture::of(report, keys).print(section),
         differing(report, section),
         table(report, section, &rows)
     )
-}
-
-/// A row of a picture: the part of the turn that it shows.
-fn rows(report: &Report) -> Vec<Turn> {
-    let Turn { begin, end } = report.week.turn;
-    (begin..end)
-        .step_by(DAY as usize)
-        .map(|from| Turn { begin: from, end: (from + DAY).min(end) })
-        .collect()
 }
 
 /// From where the rows of a picture begin, and how high each is.
 const TOP: usize = 18;
 const ROW: usize = 36;
 
-/// The picture: hours across, days down.
-fn picture(report: &Report, section: &Section, key_of: &dyn Fn(u64) -> Option<String>) -> String {
-    let rows = rows(report);
-    let across = rows[0].length();
-    let is_of_days = report.week.cycle.is_of_days();
-    let (id, title) = (anchor(section), escaped(&report.name(section)));
-    let labels: String = rows.iter().map(|row| label(report, *row)).collect();
-    let (what, unit) =
-        if is_of_days { ("Hours across, days down", "day") } else { ("Minutes across", "row") };
-    let mut svg = format!(
-        "<figure>\n<div class=\"picture\">\n<div class=\"days\" aria-hidden=\"true\">\n{labels}</div>\n\
-         <svg role=\"img\" aria-labelledby=\"{id}-title {id}-desc\" width=\"100%\" height=\"{}\">\n\
-         <title id=\"{id}-title\">{title} in the {}</title>\n\
-         <desc id=\"{id}-desc\">{what}, {}. The exact times are in the table that follows.</desc>\n",
-        TOP + ROW * rows.len(),
-        report.title(),
-        counted(rows.len() as u32, unit),
-    );
-    svg += &axis(across, is_of_days, rows.len());
-    for (i, row) in rows.iter().enumerate() {
-        let y = TOP + ROW * i;
-        let block = |run: &Run| block(report, run, *row, across, y, key_of);
-        svg.extend(section.runs.iter().filter_map(block));
-        for (which, against) in section.against.iter().enumerate() {
-            let Some(against) = against else { continue };
-            let y = if which == 0 { y + 2 } else { y + ROW - 6 };
-            let by = i64::from(report.week.turn.begin) - i64::from(against.turn.begin);
-            let there = against.there.iter().map(|run| (moved(run, by), "there"));
-            let here = against.here.iter().map(|run| (*run, "here"));
-            for (run, class) in here.chain(there) {
-                if let Some((x, width)) = place(&run, *row, across) {
-                    svg += &format!(
-                        "<rect class=\"{class}\" x=\"{x}%\" y=\"{y}\" width=\"{width}%\" height=\"4\" />\n"
-                    );
+/// A picture: hours across, days down.
+struct Picture<'a> {
+    report: &'a Report,
+    /// The part of the turn that each row shows.
+    rows: Vec<Turn>,
+    /// The minutes of a row.
+    across: u32,
+    /// How each set is called.
+    keys: HashMap<u64, String>,
+}
+
+/// What a row shows of a run: its first minute in the row, and the one that it ends before.
+fn part(run: &Run, row: Turn) -> Option<(u32, u32)> {
+    let (begin, end) = (run.begin.max(row.begin), run.end.min(row.end));
+    (begin < end).then(|| (begin - row.begin, end - row.begin))
+}
+
+impl Picture<'_> {
+    fn of(report: &Report, keys: HashMap<u64, String>) -> Picture<'_> {
+        let Turn { begin, end } = report.week.turn;
+        let row = |from: u32| Turn { begin: from, end: (from + DAY).min(end) };
+        let rows: Vec<Turn> = (begin..end).step_by(DAY as usize).map(row).collect();
+        Picture { report, across: rows[0].length(), rows, keys }
+    }
+
+    fn print(&self, section: &Section) -> String {
+        let is_of_days = self.report.week.cycle.is_of_days();
+        let (id, title) = (anchor(section), escaped(&self.report.name(section)));
+        let labels: String = self.rows.iter().map(|row| label(self.report, *row)).collect();
+        let (what, unit) =
+            if is_of_days { ("Hours across, days down", "day") } else { ("Minutes across", "row") };
+        let mut svg = format!(
+            "<figure>\n<div class='picture'>\n\
+             <div class='days' aria-hidden='true'>\n{labels}</div>\n\
+             <svg role='img' aria-labelledby='{id}-title {id}-desc' width='100%' height='{}'>\n\
+             <title id='{id}-title'>{title} in the {}</title>\n\
+             <desc id='{id}-desc'>{what}, {}. The exact times are in the table that \
+             follows.</desc>\n",
+            TOP + ROW * self.rows.len(),
+            self.report.title(),
+            counted(self.rows.len() as u32, unit),
+        );
+        svg += &axis(self.across, is_of_days, self.rows.len());
+        for (i, row) in self.rows.iter().enumerate() {
+            let y = TOP + ROW * i;
+            for run in &section.runs {
+                if let Some(part) = part(run, *row) {
+                    svg += &self.block(run, part, y);
+                }
+            }
+            for (against, y) in section.against.iter().zip([y + 2, y + ROW - 6]) {
+                let Some(against) = against else { continue };
+                let by = i64::from(self.report.week.turn.begin) - i64::from(against.turn.begin);
+                let there = against.there.iter().map(|run| (moved(run, by), "there"));
+                let here = against.here.iter().map(|run| (*run, "here"));
+                for (run, class) in here.chain(there) {
+                    if let Some(part) = part(&run, *row) {
+                        let place = self.place(part);
+                        svg += &format!("<rect class='{class}' {place} y='{y}' height='4' />\n");
+                    }
                 }
             }
         }
+        svg + "</svg>\n</div>\n</figure>\n"
     }
-    svg + "</svg>\n</div>\n</figure>\n"
+
+    /// Where a part of a row is, and how wide.
+    fn place(&self, (begin, end): (u32, u32)) -> String {
+        let [x, width] = [begin, end - begin].map(|minutes| percent(minutes, self.across));
+        format!("x='{x}%' width='{width}%'")
+    }
+
+    /// A block, with the letters of its set where there is room for them.
+    fn block(&self, run: &Run, (begin, end): (u32, u32), y: usize) -> String {
+        let key = &self.keys[&run.set];
+        // A letter takes a twenty-fourth of the row on a telephone, and a third of that on a screen.
+        let room = (end - begin) * 72 / self.across;
+        let class = match key.len() as u32 {
+            letters if room >= 3 * letters => Some(""),
+            letters if room >= letters => Some(" class='wide'"),
+            _ => None,
+        };
+        let text = class.map(|class| {
+            let middle = percent(begin + end, 2 * self.across);
+            format!("<text{class} x='{middle}%' y='{}'>{key}</text>", y + ROW / 2 + 4)
+        });
+        let times = Times::Through { begin: run.begin, end: run.end }.words(self.report.week.cycle);
+        format!(
+            "<g class='t{}'><title>{key}: {times}</title>\
+             <rect {} y='{}' height='{}' rx='2' />{}</g>\n",
+            tone(run.set),
+            self.place((begin, end)),
+            y + 8,
+            ROW - 16,
+            text.unwrap_or_default()
+        )
+    }
 }
 
 /// What stands before a row: its day, or the minute of the cycle and when that is.
@@ -300,61 +355,22 @@ fn axis(across: u32, is_of_days: bool, rows: usize) -> String {
         let x = percent(at, across);
         let number = if is_of_days { at / HOUR } else { at };
         // On a telephone there is not room for all of the longer ones.
-        let class = if number > 99 && at / step % 2 == 1 { " class=\"wide\"" } else { "" };
+        let class = if number > 99 && at / step % 2 == 1 { " class='wide'" } else { "" };
         let anchor = match at {
             0 => "start",
             _ if at == across => "end",
             _ => "middle",
         };
         svg += &format!(
-            "<line x1=\"{x}%\" y1=\"{TOP}\" x2=\"{x}%\" y2=\"{bottom}\" />\
-             <text{class} x=\"{x}%\" y=\"12\" text-anchor=\"{anchor}\">{number}</text>\n"
+            "<line x1='{x}%' y1='{TOP}' x2='{x}%' y2='{bottom}' />\
+             <text{class} x='{x}%' y='12' text-anchor='{anchor}'>{number}</text>\n"
         );
     }
     for row in 0..=rows {
         let y = TOP + ROW * row;
-        svg += &format!("<line x1=\"0\" y1=\"{y}\" x2=\"100%\" y2=\"{y}\" />\n");
+        svg += &format!("<line x1='0' y1='{y}' x2='100%' y2='{y}' />\n");
     }
     svg
-}
-
-/// Where a run is in a row, and how wide, both in percent.
-fn place(run: &Run, row: Turn, across: u32) -> Option<(String, String)> {
-    let (begin, end) = (run.begin.max(row.begin), run.end.min(row.end));
-    (begin < end).then(|| (percent(begin - row.begin, across), percent(end - begin, across)))
-}
-
-/// What a row shows of a run: a block, with the letter of its set where there is room for it.
-fn block(
-    report: &Report,
-    run: &Run,
-    row: Turn,
-    across: u32,
-    y: usize,
-    key_of: &dyn Fn(u64) -> Option<String>,
-) -> Option<String> {
-    let (x, width) = place(run, row, across)?;
-    let key = key_of(run.set).unwrap_or_default();
-    let (begin, end) = (run.begin.max(row.begin), run.end.min(row.end));
-    // A letter takes a twenty-fourth of the row on a telephone, and a third of that on a screen.
-    let letters = (end - begin) * 24 / across.max(1);
-    let class = match key.len() as u32 {
-        count if letters >= count => Some(""),
-        count if 3 * letters >= count => Some(" class=\"wide\""),
-        _ => None,
-    };
-    let text = class.map(|class| {
-        let middle = percent((begin - row.begin) + (end - row.begin), 2 * across);
-        format!("<text{class} x=\"{middle}%\" y=\"{}\">{key}</text>", y + ROW / 2 + 4)
-    });
-    let times = Times::Through { begin: run.begin, end: run.end }.words(report.week.cycle);
-    Some(format!(
-        "<g class=\"t{}\"><title>{key}: {times}</title><rect x=\"{x}%\" y=\"{}\" width=\"{width}%\" height=\"{}\" rx=\"2\" />{}</g>\n",
-        tone(run.set),
-        y + 8,
-        ROW - 16,
-        text.unwrap_or_default()
-    ))
 }
 
 /// The exact times: for each set, when and who.
@@ -366,8 +382,8 @@ fn table(report: &Report, section: &Section, rows: &[(u64, Vec<Times>)]) -> Stri
     }
     let (_, others) = plural(section.others());
     let mut text = format!(
-        "<table>\n<caption>{title}: exact times</caption>\n<thead><tr><th scope=\"col\">Key</th><th scope=\"col\">When</th>\
-         <th scope=\"col\">{others}</th></tr></thead>\n<tbody>\n"
+        "<table>\n<caption>{title}: exact times</caption>\n<thead><tr><th scope='col'>Key</th>\
+         <th scope='col'>When</th><th scope='col'>{others}</th></tr></thead>\n<tbody>\n"
     );
     for (i, (set, times)) in rows.iter().enumerate() {
         let times: String = times
@@ -375,7 +391,8 @@ fn table(report: &Report, section: &Section, rows: &[(u64, Vec<Times>)]) -> Stri
             .map(|times| format!("<li>{}</li>", dated(&times.words(report.week.cycle))))
             .collect();
         text += &format!(
-            "<tr><th scope=\"row\" class=\"k\"><i class=\"t{}\">{}</i></th><td><ul>{times}</ul></td><td>{}</td></tr>\n",
+            "<tr><th scope='row' class='k'><i class='t{}'>{}</i></th><td><ul>{times}</ul></td>\
+             <td>{}</td></tr>\n",
             tone(*set),
             key(i),
             who(report, section.others(), *set)
@@ -396,5 +413,5 @@ fn differing(report: &Report, section: &Section) -> String {
             text += &format!("<dd>{}: {who}</dd>\n", dated(&times.words(report.week.cycle)));
         }
     }
-    if text.is_empty() { text } else { format!("<dl class=\"differs\">\n{text}</dl>\n") }
+    if text.is_empty() { text } else { format!("<dl class='differs'>\n{text}</dl>\n") }
 }

@@ -1,5 +1,5 @@
-//! week: who may do what through a week, to be looked at. A cycle that is no week is shown by its own
-//! length.
+//! week: who may do what through a week, to be looked at. A cycle that is no week is shown by its
+//! own length.
 
 pub mod html;
 pub mod model;
@@ -178,15 +178,16 @@ impl Report {
         if let Some(minute) = self.today {
             let today = day(minute);
             remarks.push(format!(
-                "No date was named: this is today's {unit}, by this computer's clock, which says that it is \
-                 {today} in UTC."
+                "No date was named: this is today's {unit}, by this computer's clock, which says that \
+                 it is {today} in UTC."
             ));
         }
         if turn.length() < cycle.0 {
             remarks.push("It is cut off by the end of 2400.".into());
         }
         remarks.push(
-            "Times are from a minute to before another, by the archive's clock, which keeps no summer time."
+            "Times are from a minute to before another, by the archive's clock, which keeps no \
+             summer time."
                 .into(),
         );
         let (before, within, after) = &self.week.changes;
@@ -236,8 +237,8 @@ impl Report {
     }
 }
 
-/// What a list of differences is called, as far as it is not of those beside: what is here alone, and
-/// what is there alone.
+/// What differs in the turns beside, each list with what it is called: what is here alone, and what
+/// is there alone.
 pub fn differences<'a>(report: &Report, section: &'a Section) -> Vec<(String, &'a [Run])> {
     let mut all = Vec::new();
     for (which, against) in section.against.iter().enumerate() {

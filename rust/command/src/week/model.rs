@@ -1,5 +1,5 @@
-//! What everyone may use through a turn of the cycle, and what differs in the turns beside it. Which
-//! minutes to ask about is seen in the bytes; every answer is a board of the library.
+//! What everyone may use through a turn of the cycle, and what differs in the turns beside it.
+//! Which minutes to ask about is seen in the bytes; every answer is a board of the library.
 
 use std::collections::BTreeSet;
 
@@ -10,8 +10,8 @@ use crate::names::Kind;
 use crate::parts::Parts;
 use crate::when::{Cycle, END};
 
-/// Where something can change: on a date at which hours begin or end, and at a position in the cycle
-/// at which they open or close.
+/// Where something can change: on a date at which hours begin or end, and at a position in the
+/// cycle at which they open or close.
 pub struct Cuts {
     cycle: u32,
     dates: BTreeSet<u32>,
@@ -219,8 +219,8 @@ pub struct Week {
     stretches: Stretches,
     /// The turns before and after.
     beside: [Option<Stretches>; 2],
-    /// The dates at which something can change: before the turn the last, those within it, and after
-    /// it the first.
+    /// The dates at which something can change: before the turn the last, those within it, and
+    /// after it the first.
     pub changes: (Option<u32>, Vec<u32>, Option<u32>),
 }
 

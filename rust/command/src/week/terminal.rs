@@ -1,5 +1,5 @@
-//! A week for a terminal: for each right a line of blocks, and its times. What is no terminal gets the
-//! times alone.
+//! A week for a terminal: for each right a line of blocks, and its times. What is no terminal gets
+//! the times alone.
 
 use super::model::{Run, Section, Turn};
 use super::times::{by_time, day, who};
@@ -17,7 +17,7 @@ pub struct Look {
 }
 
 impl Look {
-    /// As the terminal is, by the environment. A locale that does not say UTF-8 gets plain characters.
+    /// As the terminal is, by the environment. Where no locale says UTF-8, plain characters do.
     pub fn here() -> Look {
         let set = |name: &&str| std::env::var(name).ok().filter(|value| !value.is_empty());
         let locale = ["LC_ALL", "LC_CTYPE", "LANG"].iter().find_map(set).unwrap_or_default();
@@ -139,8 +139,8 @@ impl Lines {
         let [nobody, part, all] = look.blocks;
         let [before, after] = [0, 1].map(|which| report.beside(which));
         format!(
-            "A character is {cell}: {all} somebody all the time, {part} for a part of it, {nobody} nobody. \
-             Below: < otherwise in {before}, > in {after}, x in both."
+            "A character is {cell}: {all} somebody all the time, {part} for a part of it, {nobody} \
+             nobody. Below: < otherwise in {before}, > in {after}, x in both."
         )
     }
 }

@@ -139,8 +139,8 @@ pub fn by_time(runs: &[Run], cycle: Cycle) -> Vec<(Times, u64)> {
     all
 }
 
-/// All of a set: `Ruth (5), volunteers 2, 7`. Those who have names come first, each as it is shown by
-/// its number.
+/// All of a set: `Ruth (5), volunteers 2, 7`. Those who have names come first, each as it is shown
+/// by its number.
 pub fn who(names: &Names, kind: Kind, set: u64, shown: impl Fn(u32) -> String) -> String {
     let (named, bare): (Vec<u32>, Vec<u32>) = (0..64)
         .filter(|number| set >> number & 1 == 1)
