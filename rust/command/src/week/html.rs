@@ -309,7 +309,7 @@ impl Picture<'_> {
     /// A block, with the letters of its set where there is room for them.
     fn block(&self, run: &Run, (begin, end): (u32, u32), y: usize) -> String {
         let key = &self.keys[&run.set];
-        // A letter takes a twenty-fourth of the row on a telephone, and a third of that on a screen.
+        // A letter takes a twenty-fourth of a row on a telephone, and a third of that on a screen.
         let room = (end - begin) * 72 / self.across;
         let class = match key.len() as u32 {
             letters if room >= 3 * letters => Some(""),

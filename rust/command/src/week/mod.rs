@@ -176,10 +176,10 @@ impl Report {
         let (unit, Week { cycle, turn, .. }) = (self.unit(), &self.week);
         let mut remarks = Vec::new();
         if let Some(minute) = self.today {
-            let today = day(minute);
             remarks.push(format!(
-                "No date was named: this is today's {unit}, by this computer's clock, which says that \
-                 it is {today} in UTC."
+                "No date was named: this is today's {unit}, by this computer's clock, on which it is \
+                 {} in UTC.",
+                day(minute)
             ));
         }
         if turn.length() < cycle.0 {

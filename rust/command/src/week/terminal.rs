@@ -93,7 +93,8 @@ impl Lines {
         for minute in (part.begin..part.end).step_by(DAY as usize) {
             let day = day(minute);
             // The weekday, with as much of the date as there is room for.
-            let words = [day.clone(), format!("{} {}", &day[..3], &day[9..]), day[..3].into()];
+            let dated = |from: usize| format!("{} {}", &day[..3], &day[from..]);
+            let words = [day.clone(), dated(9), dated(12), day[..3].into()];
             let fitting = words.into_iter().find(|words| words.len() <= room);
             line += &format!(" {:room$}", fitting.unwrap_or_else(|| day[..room.min(1)].into()));
         }
