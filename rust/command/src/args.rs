@@ -34,8 +34,13 @@ impl Opt {
             [self as usize]
     }
 
-    fn has_value(self) -> bool {
-        !matches!(self, Opt::NoNames | Opt::Plain)
+    /// What stands after it, if anything does.
+    fn value(self) -> Option<&'static str> {
+        match self {
+            Opt::Output | Opt::Names | Opt::Html => Some("a file"),
+            Opt::Right | Opt::Volunteer => Some("a name or a number"),
+            Opt::NoNames | Opt::Plain => None,
+        }
     }
 
     fn help(self) -> &'static str {
@@ -170,12 +175,12 @@ impl Command {
             let hint = did_you_mean(&name, known.chain(["--help"]));
             return Err(self.wrong(format!("{} has no option {}{hint}", self.name, shown(&name))));
         };
-        let value = match (option.has_value(), value) {
-            (true, None) => {
+        let value = match (option.value(), value) {
+            (Some(what), None) => {
                 let next = words.next().cloned();
-                Some(next.ok_or_else(|| self.wrong(format!("{text} needs something after it")))?)
+                Some(next.ok_or_else(|| self.wrong(format!("{text} needs {what} after it")))?)
             }
-            (false, Some(_)) => return Err(self.wrong(format!("{} takes no value", option.long()))),
+            (None, Some(_)) => return Err(self.wrong(format!("{} takes no value", option.long()))),
             (_, value) => value,
         };
         let is_repeated = match option {

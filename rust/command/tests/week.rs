@@ -122,6 +122,18 @@ fn holding(runs: &[Run], minute: u32) -> u64 {
 fn hold_to_questions(case: &mut Case, asked: &Asked, minute: u32, shown: &[Shown], bytes: &[u8]) {
     let turn = asked.turn(minute);
     let beside = asked.beside(turn);
+    let lists = shown.iter().flat_map(|one| beside.iter().zip(&one.differences));
+    for (beside, [alone, missing]) in lists {
+        // Nothing is compared beyond the end of either.
+        let length = beside.map_or(0, |beside| (beside.1 - beside.0).min(turn.1 - turn.0));
+        for (run, begin) in alone
+            .iter()
+            .map(|run| (run, turn.0))
+            .chain(missing.iter().map(|run| (run, beside.expect("a turn beside").0)))
+        {
+            assert!(begin <= run.begin && run.begin < run.end && run.end <= begin + length);
+        }
+    }
     for position in asked.positions(&mut case.random, turn) {
         let here = asked.at(turn.0 + position);
         let there = beside.map(|beside| {
@@ -800,7 +812,8 @@ fn what_cannot_be_shown() {
         (&["210379680"], 1, "refused 33"),
         (&["2024-02-28", "--right", "10"], 2, "there is no right 10: there are 10 rights, from 0"),
         (&["2024-02-28", "--volunteer", "Rutt"], 2, "no volunteer named Rutt"),
-        (&["2024-02-28", "--html"], 2, "--html needs something after it"),
+        (&["2024-02-28", "--html"], 2, "--html needs a file after it"),
+        (&["2024-02-28", "--right"], 2, "--right needs a name or a number after it"),
         (&["2024-02-28", "--html", "/dev/full"], 2, "cannot write /dev/full"),
         (&["2024-02-28", "--html", &nowhere], 2, "cannot write"),
     ] {

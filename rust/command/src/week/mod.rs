@@ -231,7 +231,7 @@ impl Report {
             Ordering::Greater => " Only the beginning is compared: 2400 ends in it.",
         };
         if differing.is_empty() {
-            return format!("Nothing is otherwise in {beside}.{so_far}");
+            return format!("Nothing shown here is otherwise in {beside}.{so_far}");
         }
         format!("Otherwise in {beside}: {differing}.{so_far}")
     }
