@@ -122,22 +122,22 @@ struct Entry {
 }
 
 /// A row of a table's bytes.
-struct Row {
+pub(crate) struct Row {
     derived: u32,
-    begin: u32,
-    end: u32,
-    offset: u16,
-    length: u16,
+    pub(crate) begin: u32,
+    pub(crate) end: u32,
+    pub(crate) offset: u16,
+    pub(crate) length: u16,
 }
 
 /// The bytes of an accepted table, taken apart one by one.
-struct Listed<'a> {
+pub(crate) struct Listed<'a> {
     entries: &'a [u8],
     rows: &'a [u8],
 }
 
 impl<'a> Listed<'a> {
-    fn of(table: &Table<'a>) -> Listed<'a> {
+    pub(crate) fn of(table: &Table<'a>) -> Listed<'a> {
         let (entries, rows) = table.bytes()[16..].split_at(17 * table.counts().derived as usize);
         Listed { entries, rows }
     }
@@ -150,7 +150,7 @@ impl<'a> Listed<'a> {
         })
     }
 
-    fn rows(&self) -> impl Iterator<Item = Row> + use<'a> {
+    pub(crate) fn rows(&self) -> impl Iterator<Item = Row> + use<'a> {
         self.rows.chunks_exact(16).map(|bytes| Row {
             derived: low_first(&bytes[..4]) as u32,
             begin: low_first(&bytes[4..8]) as u32,

@@ -17,17 +17,30 @@ pub enum Opt {
     NoNames,
     /// `--plain`
     Plain,
+    /// `--html OUT`: a page is written.
+    Html,
+    /// `--right NAME`
+    Right,
+    /// `--volunteer NAME`
+    Volunteer,
 }
 
 impl Opt {
-    const ALL: [Opt; 4] = [Opt::Output, Opt::Names, Opt::NoNames, Opt::Plain];
+    const ALL: [Opt; 7] =
+        [Opt::Output, Opt::Names, Opt::NoNames, Opt::Plain, Opt::Html, Opt::Right, Opt::Volunteer];
 
     fn long(self) -> &'static str {
-        ["--output", "--names", "--no-names", "--plain"][self as usize]
+        ["--output", "--names", "--no-names", "--plain", "--html", "--right", "--volunteer"]
+            [self as usize]
     }
 
-    fn has_value(self) -> bool {
-        matches!(self, Opt::Output | Opt::Names)
+    /// What stands after it, if anything does.
+    fn value(self) -> Option<&'static str> {
+        match self {
+            Opt::Output | Opt::Names | Opt::Html => Some("a file"),
+            Opt::Right | Opt::Volunteer => Some("a name or a number"),
+            Opt::NoNames | Opt::Plain => None,
+        }
     }
 
     fn help(self) -> &'static str {
@@ -39,6 +52,11 @@ impl Opt {
             Opt::NoNames => "  --no-names            show numbers, and look for no names\n",
             Opt::Plain => {
                 "  --plain               the plain listing: numbers, and sets in hexadecimal\n"
+            }
+            Opt::Html => "  --html OUT            write a page to OUT, whole or not at all\n",
+            Opt::Right => "  --right NAME          show this right alone, by name or number\n",
+            Opt::Volunteer => {
+                "  --volunteer NAME      show this volunteer alone, by name or number\n"
             }
         }
     }
@@ -66,6 +84,9 @@ pub struct Call {
     pub names: Option<OsString>,
     pub no_names: bool,
     pub plain: bool,
+    pub html: Option<OsString>,
+    pub right: Option<OsString>,
+    pub volunteer: Option<OsString>,
 }
 
 impl Call {
@@ -108,6 +129,9 @@ impl Command {
             names: None,
             no_names: false,
             plain: false,
+            html: None,
+            right: None,
+            volunteer: None,
         };
         let mut words = words.iter();
         let mut are_options = true;
@@ -151,12 +175,12 @@ impl Command {
             let hint = did_you_mean(&name, known.chain(["--help"]));
             return Err(self.wrong(format!("{} has no option {}{hint}", self.name, shown(&name))));
         };
-        let value = match (option.has_value(), value) {
-            (true, None) => {
+        let value = match (option.value(), value) {
+            (Some(what), None) => {
                 let next = words.next().cloned();
-                Some(next.ok_or_else(|| self.wrong(format!("{text} needs a file after it")))?)
+                Some(next.ok_or_else(|| self.wrong(format!("{text} needs {what} after it")))?)
             }
-            (false, Some(_)) => return Err(self.wrong(format!("{} takes no value", option.long()))),
+            (None, Some(_)) => return Err(self.wrong(format!("{} takes no value", option.long()))),
             (_, value) => value,
         };
         let is_repeated = match option {
@@ -164,6 +188,9 @@ impl Command {
             Opt::Names => std::mem::replace(&mut call.names, value).is_some(),
             Opt::NoNames => std::mem::replace(&mut call.no_names, true),
             Opt::Plain => std::mem::replace(&mut call.plain, true),
+            Opt::Html => std::mem::replace(&mut call.html, value).is_some(),
+            Opt::Right => std::mem::replace(&mut call.right, value).is_some(),
+            Opt::Volunteer => std::mem::replace(&mut call.volunteer, value).is_some(),
         };
         if is_repeated {
             return Err(self.wrong(format!("{} stands there twice", option.long())));
@@ -204,7 +231,7 @@ fn usage(commands: &[Command]) -> String {
 fn whole_help(commands: &[Command]) -> String {
     format!(
         "softlode: the rotas of an archive's volunteers in words.\n\n{}\n\
-         A FILE is a rota, in its bytes; ask, next, board and list take a table too. - is standard input.\n\
+         A FILE is a rota, in its bytes; ask, next, board, list and week take a table too. - is standard input.\n\
          Names are looked for in FILE.names. Answers go to standard output, complaints to standard error.\n\
          Status 0: done; 1: refused; 2: wrong use, or a file that cannot be read or written.\n\
          softlode help COMMAND tells more of a command; softlode --version prints the version.\n",

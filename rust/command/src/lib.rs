@@ -1,7 +1,7 @@
 //! The softlode command: a rota in words, for coordinators. Every answer comes from the proved
 //! library; what is here are words, dates and files.
 
-#![forbid(unsafe_code)]
+#![deny(unsafe_code)]
 // For the tests alone: a later compiler's warnings are no reason to stop a build.
 #![cfg_attr(test, deny(warnings))]
 
@@ -17,6 +17,7 @@ pub mod progress;
 pub mod run;
 pub mod subject;
 pub mod text;
+pub mod week;
 pub mod when;
 pub mod words;
 
@@ -101,6 +102,17 @@ pub const COMMANDS: &[Command] = &[
         summary: "Lists the table of a rota, or a table: who has which rights, and when",
         help: "",
         run: answer::list,
+    },
+    Command {
+        name: "week",
+        takes: "FILE [DATE] [--html OUT]",
+        arguments: (1, 4),
+        options: &[Opt::Html, Opt::Right, Opt::Volunteer, Opt::Names, Opt::NoNames],
+        summary: "Shows a week: who may use each right, and when",
+        help: "DATE is 2024-02-28, a date and time, or a number of minutes from 2001-01-01 00:00 on; without it,\n\
+               the week is today's. A cycle that is no week is shown by its own length. What is otherwise in the\n\
+               week before or after is said.",
+        run: week::week,
     },
 ];
 

@@ -68,6 +68,11 @@ impl Cycle {
         }
     }
 
+    /// Whether the cycle is a whole number of days.
+    pub fn is_of_days(self) -> bool {
+        self.0 % DAY == 0
+    }
+
     /// The cycle in its largest unit: `1 week`.
     pub fn words(self) -> String {
         let (unit, minutes) =

@@ -19,7 +19,7 @@ fn ended(ran: &Ran, tally: &mut Tally, what: &str) {
 }
 
 /// Every command that reads bytes.
-const ON_BYTES: [&[&str]; 9] = [
+const ON_BYTES: [&[&str]; 11] = [
     &["check", "-"],
     &["text", "-"],
     &["tidy", "-"],
@@ -29,6 +29,8 @@ const ON_BYTES: [&[&str]; 9] = [
     &["list", "-"],
     &["list", "--plain", "-"],
     &["pack", "-"],
+    &["week", "-", "2024-02-28"],
+    &["week", "-", "0", "--html", "-"],
 ];
 
 #[test]
