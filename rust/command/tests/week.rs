@@ -721,6 +721,14 @@ fn the_marks_of_a_terminal() {
     let text = terminal::print(&weekly_report(&small, 12), Some(&look));
     let drawn = "\nright 0\n   Mon 2001-01-01 00:10\n  |########..|\n   >>xx<<x>\n";
     assert!(text.contains(drawn), "{text}");
+    // No width is too small or too large.
+    for width in [0, 1, 2, 3, 1 << 32, usize::MAX] {
+        let look = Look { width, blocks: ['.', '+', '#'] };
+        for (bytes, minute) in [(&bytes, 12_180_960), (&small, 12)] {
+            let text = terminal::print(&weekly_report(bytes, minute), Some(&look));
+            assert!(text.contains("|"), "{text}");
+        }
+    }
 }
 
 #[test]

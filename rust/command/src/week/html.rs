@@ -4,7 +4,6 @@
 use std::collections::HashMap;
 
 use super::model::{Run, Section, Turn};
-use super::terminal::moved;
 use super::times::{self, Times, by_set, by_time, day};
 use super::{Report, differences};
 use crate::names::Kind;
@@ -12,7 +11,7 @@ use crate::when::{DAY, HOUR, WEEKDAYS, date};
 use crate::words::counted;
 
 /// Text as it stands in a page; characters that no page may have are spelled out.
-pub fn escaped(text: &str) -> String {
+fn escaped(text: &str) -> String {
     let mut out = String::with_capacity(text.len());
     for c in text.chars() {
         match c {
@@ -49,7 +48,7 @@ fn who(report: &Report, kind: Kind, set: u64) -> String {
 }
 
 /// How a set is called in a picture: A to Z, then AA, AB and so on.
-pub fn key(mut number: usize) -> String {
+fn key(mut number: usize) -> String {
     let mut letters = Vec::new();
     loop {
         letters.insert(0, char::from(b'A' + (number % 26) as u8));
@@ -286,8 +285,7 @@ impl Picture<'_> {
             }
             for (against, y) in section.against.iter().zip([y + 2, y + ROW - 6]) {
                 let Some(against) = against else { continue };
-                let by = i64::from(self.report.week.turn.begin) - i64::from(against.turn.begin);
-                let there = against.there.iter().map(|run| (moved(run, by), "there"));
+                let there = against.there_in(self.report.week.turn).map(|run| (run, "there"));
                 let here = against.here.iter().map(|run| (*run, "here"));
                 for (run, class) in here.chain(there) {
                     if let Some(part) = part(&run, *row) {

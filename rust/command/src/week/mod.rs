@@ -8,7 +8,6 @@ pub mod times;
 mod width;
 
 use std::cmp::Ordering;
-use std::path::Path;
 use std::time::{SystemTime, UNIX_EPOCH};
 
 use softlode::{LAST_MINUTE, Table};
@@ -108,7 +107,7 @@ fn source(source: &Source) -> String {
     match source {
         Source::Standard => source.shown(),
         Source::File(path) => {
-            shown(&Path::new(path).file_name().unwrap_or(path.as_os_str()).to_string_lossy())
+            shown(&path.file_name().unwrap_or(path.as_os_str()).to_string_lossy())
         }
     }
 }
@@ -191,8 +190,14 @@ impl Report {
                 .into(),
         );
         let (before, within, after) = &self.week.changes;
-        let dates =
-            |minutes: &[u32]| listed(&minutes.iter().map(|&at| date(at)).collect::<Vec<_>>());
+        let dates = |minutes: &[u32]| {
+            const MOST: usize = 8;
+            let mut dates: Vec<String> = minutes.iter().take(MOST).map(|&at| date(at)).collect();
+            if minutes.len() > MOST {
+                dates.push(format!("{} more dates", minutes.len() - MOST));
+            }
+            listed(&dates)
+        };
         let mut changes = Vec::new();
         if !within.is_empty() {
             changes.push(format!("in this {unit} on {}", dates(within)));
@@ -216,7 +221,9 @@ impl Report {
     /// can be compared.
     pub fn compared(&self, which: usize, known: Option<&Section>, differing: String) -> String {
         let (unit, beside) = (self.unit(), self.beside(which));
-        let Some(section) = known else { return format!("Nothing is shown of {beside}.") };
+        let Some(section) = known else {
+            return format!("There is nothing to compare with {beside}.");
+        };
         let Some(against) = &section.against[which] else {
             let ends = ["2001 begins", "2400 ends"][which];
             return format!(

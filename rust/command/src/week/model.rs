@@ -94,6 +94,19 @@ pub struct Run {
     pub set: u64,
 }
 
+impl Run {
+    /// The same at the same positions of another turn.
+    pub fn moved(self, from: Turn, to: Turn) -> Run {
+        let at = |minute: u32| minute - from.begin + to.begin;
+        Run { begin: at(self.begin), end: at(self.end), ..self }
+    }
+
+    /// How many of the minutes from one to before another it has.
+    pub fn within(&self, begin: u32, end: u32) -> u32 {
+        self.end.min(end).saturating_sub(self.begin.max(begin))
+    }
+}
+
 /// Adds a run; it is joined with the last one where the two touch and have one set, and left out
 /// where nobody or nothing is in it.
 fn push(runs: &mut Vec<Run>, run: Run) {
@@ -106,19 +119,17 @@ fn push(runs: &mut Vec<Run>, run: Run) {
     }
 }
 
-/// What the one has and the other, which is moved on by so many minutes, has not.
-fn without(runs: &[Run], others: &[Run], by: i64) -> Vec<Run> {
-    let moved = |minute: u32| (i64::from(minute) + by) as u32;
+/// What the one has and the other has not.
+fn without(runs: &[Run], others: &[Run]) -> Vec<Run> {
     let mut left = Vec::new();
     let mut first = 0;
     for run in runs {
         let mut at = run.begin;
-        while others.get(first).is_some_and(|other| moved(other.end) <= at) {
+        while others.get(first).is_some_and(|other| other.end <= at) {
             first += 1;
         }
         for other in &others[first..] {
-            let (begin, end) =
-                (moved(other.begin).clamp(at, run.end), moved(other.end).min(run.end));
+            let (begin, end) = (other.begin.clamp(at, run.end), other.end.min(run.end));
             if begin >= run.end {
                 break;
             }
@@ -140,6 +151,13 @@ pub struct Against {
     pub here: Vec<Run>,
     /// What is so there and not here, at the minutes of the turn beside.
     pub there: Vec<Run>,
+}
+
+impl Against {
+    /// What is so there alone, at the minutes of this turn, for a picture of it.
+    pub fn there_in(&self, turn: Turn) -> impl Iterator<Item = Run> {
+        self.there.iter().map(move |run| run.moved(self.turn, turn))
+    }
 }
 
 /// A right and who may use it, or a volunteer and what they may use.
@@ -263,11 +281,13 @@ impl Week {
             let length = self.turn.length().min(beside.turn.length());
             let here = self.stretches.runs(kind, number, length);
             let there = beside.runs(kind, number, length);
-            let by = i64::from(self.turn.begin) - i64::from(beside.turn.begin);
+            let moved = |runs: &[Run], from: Turn, to: Turn| -> Vec<Run> {
+                runs.iter().map(|run| run.moved(from, to)).collect()
+            };
             Some(Against {
                 turn: beside.turn,
-                here: without(&here, &there, by),
-                there: without(&there, &here, -by),
+                here: without(&here, &moved(&there, beside.turn, self.turn)),
+                there: without(&there, &moved(&here, self.turn, beside.turn)),
             })
         });
         Section { kind, number, runs, against }

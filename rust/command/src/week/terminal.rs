@@ -1,7 +1,7 @@
 //! A week for a terminal: for each right a line of blocks, and its times. What is no terminal gets
 //! the times alone.
 
-use super::model::{Run, Section, Turn};
+use super::model::{Section, Turn};
 use super::times::{by_time, day, who};
 use super::{Report, differences, width};
 use crate::names::Kind;
@@ -46,7 +46,7 @@ impl Lines {
         let turn = report.week.turn;
         let room = width.saturating_sub(INDENT);
         if !report.week.cycle.is_of_days() {
-            let room = room.saturating_sub(2).max(1) as u32;
+            let room = room.saturating_sub(2).clamp(1, DAY as usize) as u32;
             return Lines {
                 parts: vec![turn],
                 cell: turn.length().div_ceil(room),
@@ -105,16 +105,15 @@ impl Lines {
         let mut text = String::new();
         for &part in &self.parts {
             let covered = self.line(part, |begin, end| {
-                let minutes: u32 = section.runs.iter().map(|run| common(run, begin, end)).sum();
+                let minutes: u32 = section.runs.iter().map(|run| run.within(begin, end)).sum();
                 look.blocks[usize::from(minutes > 0) + usize::from(minutes == end - begin)]
             });
             let marks = self.line(part, |begin, end| {
                 let [before, after] = [0, 1].map(|which| {
                     let Some(against) = &section.against[which] else { return false };
-                    let by = i64::from(report.week.turn.begin) - i64::from(against.turn.begin);
-                    let there = |run: &Run| common(&moved(run, by), begin, end) > 0;
-                    against.here.iter().any(|run| common(run, begin, end) > 0)
-                        || against.there.iter().any(there)
+                    let there = against.there_in(report.week.turn);
+                    let mut all = against.here.iter().copied().chain(there);
+                    all.any(|run| run.within(begin, end) > 0)
                 });
                 match (before, after) {
                     (false, false) => ' ',
@@ -144,17 +143,6 @@ impl Lines {
              nobody. Below: < otherwise in {before}, > in {after}, x in both."
         )
     }
-}
-
-/// How many minutes a run has in common with those from one to before another.
-fn common(run: &Run, begin: u32, end: u32) -> u32 {
-    run.end.min(end).saturating_sub(run.begin.max(begin))
-}
-
-/// A run so many minutes later.
-pub fn moved(run: &Run, by: i64) -> Run {
-    let [begin, end] = [run.begin, run.end].map(|minute| (i64::from(minute) + by) as u32);
-    Run { begin, end, ..*run }
 }
 
 /// A line that is broken at blanks where it is too long; what follows stands farther in.

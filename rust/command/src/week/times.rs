@@ -107,11 +107,12 @@ fn times(runs: &[Run], cycle: Cycle) -> Vec<Times> {
     }
     // On one day alone, both days of a night are said.
     for times in &mut all {
-        if let Times::Days { days, time, length } = times {
-            if days.len() == 1 && *time + *length > DAY {
-                let begin = days[0] + *time;
-                *times = Times::Through { begin, end: begin + *length };
-            }
+        if let Times::Days { days, time, length } = times
+            && days.len() == 1
+            && *time + *length > DAY
+        {
+            let begin = days[0] + *time;
+            *times = Times::Through { begin, end: begin + *length };
         }
     }
     all
