@@ -11,7 +11,7 @@ use cases::generate::{self, LIMITS, Sizes};
 use cases::random::Random;
 use command::names::{Kind, Names};
 use command::parts::Parts;
-use command::subject::rewritten;
+
 use command::week::Report;
 use command::week::model::{Cuts, Run, Week};
 use command::week::terminal::{self, Look};
@@ -506,7 +506,7 @@ fn the_model_of_rotas() {
         let (rota, minute) = generated(&mut case.random);
         let bytes = rota.encode();
         let accepted = Rota::read(&bytes).unwrap();
-        let table = rewritten(&accepted).unwrap();
+        let table = accepted.rewrite_to_vec().unwrap();
         let cuts = Cuts::of_rota(&Parts::of(&accepted));
         let week = Week::of(&Table::read(&table).unwrap(), &cuts, minute).unwrap();
         let asked = asked(Lent::Rota(&bytes), &rota);
@@ -643,7 +643,7 @@ fn the_page_of_the_weekly_rota() {
 /// The report of the weekly rota, to be drawn for a terminal.
 fn weekly_report(bytes: &[u8], minute: u32) -> Report {
     let rota = Rota::read(bytes).unwrap();
-    let table = rewritten(&rota).unwrap();
+    let table = rota.rewrite_to_vec().unwrap();
     let cuts = Cuts::of_rota(&Parts::of(&rota));
     Report {
         week: Week::of(&Table::read(&table).unwrap(), &cuts, minute).unwrap(),
