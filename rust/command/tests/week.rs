@@ -633,8 +633,8 @@ fn the_page_of_the_weekly_rota() {
     assert!(is_kept, "data/week.html is not what softlode week makes of data/week.rota");
     for words in [
         "<h3 id='right-4-name'>approve a record (4)</h3>",
-        "<dt>Not the week before</dt>\n<dd><span>Fri 2024-03-01</span> from 13:00 to before 18:00: volunteer 6</dd>",
-        "<dt>The week before also</dt>\n<dd><span>Fri 2024-02-23</span> from 09:00 to before 18:00: volunteer 7</dd>",
+        "<dt>Not the week before</dt>\n<dd><span>Fri 2024-03-01</span> from 13:00 to before 18:00: Greta (6)</dd>",
+        "<dt>The week before also</dt>\n<dd><span>Fri 2024-02-23</span> from 09:00 to before 18:00: Hugo (7)</dd>",
     ] {
         assert!(page.contains(words), "{words}");
     }
@@ -784,11 +784,8 @@ fn dates_and_choices() {
     };
     assert_eq!(headings(&["--right", "4"]), ["approve a record (4)"]);
     assert_eq!(headings(&["--right=approve a record"]), ["approve a record (4)"]);
-    assert_eq!(headings(&["--volunteer", "coordinator"]), ["coordinator (0)"]);
-    assert_eq!(
-        headings(&["--volunteer", "7", "--right", "0"]),
-        ["read a record (0)", "volunteer 7"]
-    );
+    assert_eq!(headings(&["--volunteer", "Agnes"]), ["Agnes (0)"]);
+    assert_eq!(headings(&["--volunteer", "7", "--right", "0"]), ["read a record (0)", "Hugo (7)"]);
     let volunteer = week(&["2024-02-28", "--volunteer", "9"]);
     assert!(
         volunteer
