@@ -633,8 +633,8 @@ fn the_page_of_the_weekly_rota() {
     assert!(is_kept, "data/week.html is not what softlode week makes of data/week.rota");
     for words in [
         "<h3 id='right-4-name'>approve a record (4)</h3>",
-        "<dt>Not the week before</dt>\n<dd><span>Fri 2024-03-01</span> from 13:00 to before 18:00: Greta (6)</dd>",
-        "<dt>The week before also</dt>\n<dd><span>Fri 2024-02-23</span> from 09:00 to before 18:00: Hugo (7)</dd>",
+        "<dt>Not the week before</dt>\n<dd><span>Fri 2024-03-01</span> from 13:00 to before 18:00: <span>Greta (6)</span></dd>",
+        "<dt>The week before also</dt>\n<dd><span>Fri 2024-02-23</span> from 09:00 to before 18:00: <span>Hugo (7)</span></dd>",
     ] {
         assert!(page.contains(words), "{words}");
     }

@@ -32,13 +32,23 @@ fn is_no_character(c: char) -> bool {
 }
 
 /// A volunteer or a right as a page shows it. A name that may be written from right to left does
-/// not turn around what is beside it.
+/// not turn around what is beside it, and any other keeps its number beside its last word, unless
+/// that is long.
 fn shown(report: &Report, kind: Kind, number: u32) -> String {
+    let whole = report.names.shown(kind, number);
     match report.names.get(kind, number) {
         Some(name) if name.chars().any(|c| c >= '\u{590}') => {
             format!("<bdi>{}</bdi> ({number})", escaped(name))
         }
-        _ => escaped(&report.names.shown(kind, number)),
+        Some(name) => {
+            let before = name.rfind(' ').map_or(0, |blank| blank + 1);
+            let (first, last) = whole.split_at(before);
+            match last.len() {
+                0..=20 => format!("{}<span>{}</span>", escaped(first), escaped(last)),
+                _ => escaped(&whole),
+            }
+        }
+        None => escaped(&whole),
     }
 }
 
