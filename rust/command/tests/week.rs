@@ -632,7 +632,7 @@ fn the_page_of_the_weekly_rota() {
     let is_kept = page == std::fs::read_to_string(data("week.html")).unwrap();
     assert!(is_kept, "data/week.html is not what softlode week makes of data/week.rota");
     for words in [
-        "<h3 id='right-4-name'>approve a record (4)</h3>",
+        "<h3 id='right-4-name'>approve a <span>record (4)</span></h3>",
         "<dt>Not the week before</dt>\n<dd><span>Fri 2024-03-01</span> from 13:00 to before 18:00: <span>Greta (6)</span></dd>",
         "<dt>The week before also</dt>\n<dd><span>Fri 2024-02-23</span> from 09:00 to before 18:00: <span>Hugo (7)</span></dd>",
     ] {
