@@ -2,8 +2,8 @@ use native.Mathlib.Omega.{arith}
 use Rattle.grid.proofs.LaidLaws.{fields-few}
 use Rattle.area.proofs.ScratchLaws.{scratch-of}
 use borrow.Author.Needs.{needs}
-use Rattle.rewriting.proofs.rewrite_large.Statement.{statement}
-use Rattle.rewriting.proofs.rewrite_large.Tie as tie
+use Rattle.scratch.proofs.rewrite_large.Statement.{statement}
+use Rattle.scratch.proofs.rewrite_large.Tie as tie
 
 slice-aggregate-rewrite-with : tie.Need-slice-aggregate-rewrite-with
 slice-aggregate-rewrite-with c = search needs

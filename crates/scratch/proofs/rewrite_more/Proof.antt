@@ -1,8 +1,8 @@
 use native.Mathlib.Omega.{arith}
 use Rattle.grid.proofs.LaidLaws.{fields-few}
 use borrow.Author.Needs.{needs}
-use Rattle.rewriting.proofs.rewrite_more.Statement.{statement}
-use Rattle.rewriting.proofs.rewrite_more.Tie as tie
+use Rattle.scratch.proofs.rewrite_more.Statement.{statement}
+use Rattle.scratch.proofs.rewrite_more.Tie as tie
 
 mul-if1 : tie.Need-mul-if1
 mul-if1 c = omega (arith, fields-few (c .before .before .before .before .pre .3))
