@@ -198,17 +198,16 @@ impl Report {
             }
             listed(&dates)
         };
-        let mut changes = Vec::new();
-        if !within.is_empty() {
-            changes.push(format!("in this {unit} on {}", dates(within)));
-        }
+        let mut changes = vec![match within.as_slice() {
+            [] => format!("No hours begin or end in this {unit}"),
+            within => format!("Hours begin or end in this {unit} on {}", dates(within)),
+        }];
         changes.extend(before.map(|at| format!("before it last on {}", dates(&[at]))));
         changes.extend(after.map(|at| format!("after it next on {}", dates(&[at]))));
-        remarks.push(if changes.is_empty() {
-            "No hours begin or end on a date.".into()
-        } else {
-            format!("Hours begin or end {}.", changes.join("; "))
-        });
+        if changes.len() == 1 && within.is_empty() {
+            changes = vec!["No hours begin or end on a date".into()];
+        }
+        remarks.push(changes.join("; ") + ".");
         remarks
     }
 
