@@ -1,0 +1,4 @@
+pub mod ReachLaws
+pub mod HierarchyTheorems
+pub mod HandedDownLaws
+pub mod Worked
