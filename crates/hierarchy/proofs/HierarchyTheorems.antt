@@ -1,5 +1,5 @@
 -- Seniors and juniors: the test and the chains are one.
---     step-in, step-out   one step of the test, there and back
+--     stay, step-in       a yes with no step, and with one more; back: stop-out, step-out
 --     chain-in, chain-out a yes is a chain, and a chain a yes
 --     falls, lower        a junior is below its senior, and so is what is reached
 --     enough, enough-all  r steps from role r are enough, and as many as there are roles from any
@@ -9,13 +9,12 @@
 use Prim.Native.Nat.{ℕ, zero, suc, _≤_, _<_}
 use mathlib.Core.Path.{_≡_, refl, sym, ap, _∙_, subst}
 use mathlib.Core.Logic.{_↔_, _⊎_, inl, inr, ⊎-elim}
-use mathlib.Core.Bool.{Bool, true, _&&_, or-true}
+use mathlib.Core.Bool.{Bool, true, _&&_, _||_, or-true}
 use mathlib.Core.List.{List, List·Memᴰ}
 use native.Mathlib.Nat.{not-suc-le-zero}
 use native.Mathlib.Omega.{arith}
 use lib.Dec.{eqb}
 use borrow.Author.Tests.{eq-eqb, eqb-true}
-use Rattle.ground.specs.Search.{any}
 use Rattle.ground.proofs.BoolLaws.{or-yes, or-left, and-yes, and-both, and-three, and-all, eq-ext}
 use Rattle.ground.proofs.ListLaws.{some-in, some-out, all-in}
 use Rattle.hierarchy.specs.Hierarchy.{Pairing, PairsWell, reaches, Chain}
@@ -35,12 +34,9 @@ module _ (pairs : List Pairing) (enabled : ℕ → Bool) where
   pub step-in : (n r j q : ℕ) → Link r j → reaches pairs enabled n j q ≡ true → reaches pairs enabled (suc n) r q ≡ true
   unfolding reaches
   step-in n r j q k h =
-      rw (some-in
-      (λ (x : Pairing). eqb (x .senior) r && enabled r && enabled (x .junior) && reaches pairs enabled n (x .junior) q)
-      (k .paired) (and-both _ _ (and-all _ _ _ (eq-eqb r r refl) (k .above) (k .below)) h))
-      (or-true (eqb r q))
+      ap (λ (b : Bool). eqb r q || b) (some-in _ (k .paired) (and-both _ _ (and-all _ _ _ (eq-eqb r r refl) (k .above) (k .below)) h)) ∙ or-true (eqb r q)
 
-  -- a yes after one step, and after none
+  -- a yes by a first step to the next role
   pub record Stepped (n r q : ℕ) : Type 0 where
     pub next : ℕ
     pub link : Link r next
@@ -48,15 +44,14 @@ module _ (pairs : List Pairing) (enabled : ℕ → Bool) where
 
   pub step-out : (n r q : ℕ) → reaches pairs enabled (suc n) r q ≡ true → (r ≡ q) ⊎ Stepped n r q
   unfolding reaches
-  step-out n r q h = ⊎-elim (λ e. inl (eqb-true r q e)) (λ e. inr (by-pair e)) (or-yes (eqb r q) _ h)
+  step-out n r q h = ⊎-elim (λ e. inl (eqb-true r q e)) (λ e. inr (by (some-out _ pairs e))) (or-yes (eqb r q) _ h)
     where
-      by-pair : any (λ (x : Pairing). eqb (x .senior) r && enabled r && enabled (x .junior) && reaches pairs enabled n (x .junior) q) pairs ≡ true
+      by : (x : Pairing) × List·Memᴰ x pairs × ((eqb (x .senior) r && enabled r && enabled (x .junior) && reaches pairs enabled n (x .junior) q) ≡ true)
           → Stepped n r q
-      by-pair e =
-          let p = some-out _ pairs e in
+      by p =
           let x = p .0 in
-          let a = and-yes (eqb (x .senior) r && enabled r && enabled (x .junior)) _ (p .2) in
-          let b = and-three (eqb (x .senior) r) (enabled r) (enabled (x .junior)) (a .0) in
+          let a = and-yes _ _ (p .2) in
+          let b = and-three _ _ _ (a .0) in
           record {
             next = x .junior;
             link = record {

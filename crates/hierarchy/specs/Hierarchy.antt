@@ -13,7 +13,7 @@ pub record Pairing : Type 0 where
   pub senior : ℕ
   pub junior : ℕ
 
--- of R roles, each pair's junior is below its senior
+-- each pair is of two of R roles, the junior below the senior
 abbrev pub PairsWell : ℕ → List Pairing → Type 0
 PairsWell R pairs = All (λ (x : Pairing). (x .junior < x .senior) × (x .senior < R)) pairs
 
