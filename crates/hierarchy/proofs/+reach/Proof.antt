@@ -23,173 +23,9 @@ reach-at t = and 1 reach-kinds.ps (is 1 reach-kinds.ps μ-reach t) reach.Pre
 abbrev reach-below : ℕ → In 1 reach-kinds.ps
 reach-below t = and 1 reach-kinds.ps (falls 1 reach-kinds.ps _<_ μ-reach t) reach.Pre
 
--- src/lib.rt:13:9
-reach-returns : (t : ℕ) → reach-lts.Need-returns (
-  both-reads.Asked,
-  both-reads.Learnt,
-  contains-reads.Asked,
-  contains-reads.Learnt,
-  either-reads.Asked,
-  either-reads.Learnt,
-  reach-below t,
-  reach.Post,
-) (reach-at t) reach.Post
-reach-returns t c = reach-none _ _ _ _ (c .if1 .taken)
-
--- src/lib.rt:15:13
-reach-sub-r : (t : ℕ) → reach-lts.Need-sub-r (
-  both-reads.Asked,
-  both-reads.Learnt,
-  contains-reads.Asked,
-  contains-reads.Learnt,
-  either-reads.Asked,
-  either-reads.Learnt,
-  reach-below t,
-  reach.Post,
-) (reach-at t) reach.Post
-reach-sub-r t c = pos-of-ne-zero (c .if1 .left)
-
--- src/lib.rt:16:13
-reach-cast-i : (t : ℕ) → reach-lts.Need-cast-i (
-  both-reads.Asked,
-  both-reads.Learnt,
-  contains-reads.Asked,
-  contains-reads.Learnt,
-  either-reads.Asked,
-  either-reads.Learnt,
-  reach-below t,
-  reach.Post,
-) (reach-at t) reach.Post
-reach-cast-i t c = omega (arith, c .before .pre .1)
-
--- src/lib.rt:17:29
-reach-mul-both : (t : ℕ) → reach-lts.Need-mul-both (
-  both-reads.Asked,
-  both-reads.Learnt,
-  contains-reads.Asked,
-  contains-reads.Learnt,
-  either-reads.Asked,
-  either-reads.Learnt,
-  reach-below t,
-  reach.Post,
-) (reach-at t) reach.Post
-reach-mul-both t c = omega (arith, c .before .pre .1)
-
--- src/lib.rt:17:29
-reach-element-copy-out-both : (t : ℕ) → reach-lts.Need-element-copy-out-both (
-  both-reads.Asked,
-  both-reads.Learnt,
-  contains-reads.Asked,
-  contains-reads.Learnt,
-  either-reads.Asked,
-  either-reads.Learnt,
-  reach-below t,
-  reach.Post,
-) (reach-at t) reach.Post
-reach-element-copy-out-both t c = omega (arith, c .before .pre .1)
-
--- src/lib.rt:17:9
-reach-both-requires : (t : ℕ) → reach-lts.Need-both-requires (
-  both-reads.Asked,
-  both-reads.Learnt,
-  contains-reads.Asked,
-  contains-reads.Learnt,
-  either-reads.Asked,
-  either-reads.Learnt,
-  reach-below t,
-  reach.Post,
-) (reach-at t) reach.Post
-reach-both-requires t c κs = tt
-
--- src/lib.rt:18:8
-reach-contains-requires : (t : ℕ) → reach-lts.Need-contains-requires (
-  both-reads.Asked,
-  both-reads.Learnt,
-  contains-reads.Asked,
-  contains-reads.Learnt,
-  either-reads.Asked,
-  either-reads.Learnt,
-  reach-below t,
-  reach.Post,
-) (reach-at t) reach.Post
-reach-contains-requires t c κs = omega (arith, c .before .before .before .pre .1)
-
--- src/lib.rt:19:38
-reach-either-requires : (t : ℕ) → reach-lts.Need-either-requires (
-  both-reads.Asked,
-  both-reads.Learnt,
-  contains-reads.Asked,
-  contains-reads.Learnt,
-  either-reads.Asked,
-  either-reads.Learnt,
-  reach-below t,
-  reach.Post,
-) (reach-at t) reach.Post
-reach-either-requires t c κs = tt
-
--- src/lib.rt:19:9
-reach-reach-requires : (t : ℕ) → reach-lts.Need-reach-requires (
-  both-reads.Asked,
-  both-reads.Learnt,
-  contains-reads.Asked,
-  contains-reads.Learnt,
-  either-reads.Asked,
-  either-reads.Learnt,
-  reach-below t,
-  reach.Post,
-) (reach-at t) reach.Post
-reach-reach-requires t c κs =
-    let d = c .before .before .before .before .before in
-    (omega (arith, d .before .pre .0, pos-of-ne-zero (d .if1 .left)), omega (arith, d .before .pre .1))
-
--- src/lib.rt:19:9
-reach-returns-2 : (t : ℕ) → reach-lts.Need-returns-2 (
-  both-reads.Asked,
-  both-reads.Learnt,
-  contains-reads.Asked,
-  contains-reads.Learnt,
-  either-reads.Asked,
-  either-reads.Learnt,
-  reach-below t,
-  reach.Post,
-) (reach-at t) reach.Post
-reach-returns-2 t c =
-    let d = c .before .before .before in
-    reach-in _ _ _ _ _ _ (d .before .before .before .if1 .left) refl (d .contains .ensures) _ _ _ (c .before .before .if2 .taken) (d .before .both .ensures)
-    (c .before .either .ensures) (c .reach .ensures)
-
--- src/lib.rt:21:5
-reach-reach-requires-2 : (t : ℕ) → reach-lts.Need-reach-requires-2 (
-  both-reads.Asked,
-  both-reads.Learnt,
-  contains-reads.Asked,
-  contains-reads.Learnt,
-  either-reads.Asked,
-  either-reads.Learnt,
-  reach-below t,
-  reach.Post,
-) (reach-at t) reach.Post
-reach-reach-requires-2 t c κs =
-    let d = c .before .before .before .before in
-    (omega (arith, d .before .pre .0, pos-of-ne-zero (d .if1 .left)), omega (arith, d .before .pre .1))
-
--- src/lib.rt:8:1
-reach-returns-3 : (t : ℕ) → reach-lts.Need-returns-3 (
-  both-reads.Asked,
-  both-reads.Learnt,
-  contains-reads.Asked,
-  contains-reads.Learnt,
-  either-reads.Asked,
-  either-reads.Learnt,
-  reach-below t,
-  reach.Post,
-) (reach-at t) reach.Post
-reach-returns-3 t c =
-    let d = c .before .before in
-    reach-out _ _ _ _ _ _ (d .before .before .before .if1 .left) refl (d .contains .ensures) _ (c .before .if2 .left) (c .reach2 .ensures)
-
-pub +reach-spec : {M : Type 1} → statement M
-+reach-spec = close μ-reach λ t. reach-lts.spec (
+-- what the callees ask and promise, the call of itself included
+abbrev claims : ℕ → reach-lts.Claims
+claims t = (
   both-reads.Asked,
   both-reads.Learnt,
   contains-reads.Asked,
@@ -199,6 +35,54 @@ pub +reach-spec : {M : Type 1} → statement M
   reach-below t,
   reach.Post,
 )
+
+reach-returns : (t : ℕ) → reach-lts.Need-returns (claims t) (reach-at t) reach.Post
+reach-returns t c = reach-none _ _ _ _ (c .if1 .taken)
+
+reach-sub-r : (t : ℕ) → reach-lts.Need-sub-r (claims t) (reach-at t) reach.Post
+reach-sub-r t c = pos-of-ne-zero (c .if1 .left)
+
+reach-cast-i : (t : ℕ) → reach-lts.Need-cast-i (claims t) (reach-at t) reach.Post
+reach-cast-i t c = omega (arith, c .before .pre .1)
+
+reach-mul-both : (t : ℕ) → reach-lts.Need-mul-both (claims t) (reach-at t) reach.Post
+reach-mul-both t c = omega (arith, c .before .pre .1)
+
+reach-element-copy-out-both : (t : ℕ) → reach-lts.Need-element-copy-out-both (claims t) (reach-at t) reach.Post
+reach-element-copy-out-both t c = omega (arith, c .before .pre .1)
+
+reach-both-requires : (t : ℕ) → reach-lts.Need-both-requires (claims t) (reach-at t) reach.Post
+reach-both-requires t c κs = tt
+
+reach-contains-requires : (t : ℕ) → reach-lts.Need-contains-requires (claims t) (reach-at t) reach.Post
+reach-contains-requires t c κs = omega (arith, c .before .before .before .pre .1)
+
+reach-either-requires : (t : ℕ) → reach-lts.Need-either-requires (claims t) (reach-at t) reach.Post
+reach-either-requires t c κs = tt
+
+reach-reach-requires : (t : ℕ) → reach-lts.Need-reach-requires (claims t) (reach-at t) reach.Post
+reach-reach-requires t c κs =
+    let d = c .before .before .before .before .before in
+    (omega (arith, d .before .pre .0, pos-of-ne-zero (d .if1 .left)), omega (arith, d .before .pre .1))
+
+reach-returns-2 : (t : ℕ) → reach-lts.Need-returns-2 (claims t) (reach-at t) reach.Post
+reach-returns-2 t c =
+    let d = c .before .before .before in
+    reach-in _ _ _ _ _ _ (d .before .before .before .if1 .left) refl (d .contains .ensures) _ _ _ (c .before .before .if2 .taken) (d .before .both .ensures)
+    (c .before .either .ensures) (c .reach .ensures)
+
+reach-reach-requires-2 : (t : ℕ) → reach-lts.Need-reach-requires-2 (claims t) (reach-at t) reach.Post
+reach-reach-requires-2 t c κs =
+    let d = c .before .before .before .before in
+    (omega (arith, d .before .pre .0, pos-of-ne-zero (d .if1 .left)), omega (arith, d .before .pre .1))
+
+reach-returns-3 : (t : ℕ) → reach-lts.Need-returns-3 (claims t) (reach-at t) reach.Post
+reach-returns-3 t c =
+    let d = c .before .before in
+    reach-out _ _ _ _ _ _ (d .before .before .before .if1 .left) refl (d .contains .ensures) _ (c .before .if2 .left) (c .reach2 .ensures)
+
+pub +reach-spec : {M : Type 1} → statement M
++reach-spec = close μ-reach λ t. reach-lts.spec (claims t)
     (reach-at t)
     reach.Post
     (reach-returns t)
