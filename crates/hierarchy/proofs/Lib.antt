@@ -1,0 +1,4 @@
+pub mod Worked
+pub mod ReachLaws
+pub mod HierarchyTheorems
+pub mod HandedDownLaws

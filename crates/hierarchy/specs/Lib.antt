@@ -1,0 +1,3 @@
+pub mod Hierarchy
+pub mod Worked
+pub mod HandedDown
