@@ -316,7 +316,7 @@ softlode_told softlode_table_ask(softlode_service *service, const uint8_t *table
 softlode_date_time softlode_date(uint32_t minute);
 softlode_minute_number softlode_minute(uint32_t year, uint32_t month, uint32_t day, uint32_t hour, uint32_t minute);
 
-/* What a refusal's number means, in a line; "" for 0, and for a number that is no refusal that it is not known. It is not proved. */
+/* What a refusal's number means, in a line; "" for 0. Of a number that is no refusal it says that it does not know it. It is not proved. */
 static inline const char *softlode_meaning(uint32_t refusal) {
     switch (refusal) {
     case 0: return "";
