@@ -32,11 +32,14 @@ all: $(archive) target/lib/libsoftlode.so target/bin/listing $(command)
 check:
 	.ci/run
 
+# rt check proves as many crates at a time as there are processors; rt staticlib, which goes one by one, finds them proved but for the last.
 $(proved): $(sources)
+	rt check softlode listing
 	rt staticlib softlode
 
 target/bin/listing: $(sources)
 	rt check listing
+	touch $@
 
 $(command): $(proved) $(shell find rust/command rust/softlode rust/Cargo.toml rust/Cargo.lock -type f)
 	cd rust && cargo build -q --release --offline -p command
