@@ -1,4 +1,6 @@
 // Sets of the numbers 0 to 63, as the bits of a u64.
+#![tactic(auto)]
+
 ghost use Rattle.std.specs.Prelude.{◌≡◌, ℕ, ◌<◌, ◌≤◌, ◌^◌, eqb, ltb};
 ghost use Rattle.bitset.specs.Believed.Sets.{has, insert, remove, union, intersection, difference, count, Lowest};
 

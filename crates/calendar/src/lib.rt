@@ -1,4 +1,6 @@
 // The calendar: a minute as a date and a time of day, and back.
+#![tactic(auto)]
+
 ghost use Rattle.std.specs.Prelude.{◌≡◌, true, ◌<◌};
 ghost use Rattle.minutes.specs.Believed.Minutes.{E};
 ghost use Rattle.calendar.specs.Believed.Calendar.{
@@ -20,7 +22,7 @@ ghost use Rattle.calendar.specs.Believed.Calendar.{
 
 mod tables; // the starts of the months
 
-#[derive(Drop)]
+#[derive(Clone, Copy)]
 pub struct Date {
     pub year: u32,
     pub month: u32,
@@ -31,13 +33,13 @@ pub struct Date {
     pub minute: u32,
 }
 
-#[derive(Drop)]
+#[derive(Clone, Copy)]
 pub enum DateAnswer {
     On(Date),
     Refused(u8),
 }
 
-#[derive(Drop)]
+#[derive(Clone, Copy)]
 pub enum MinuteAnswer {
     At(u32),
     Refused(u8),
@@ -90,7 +92,7 @@ fn year_length(year: u32) -> u32
 }
 
 // A year, counted from 2001, and the day number of its 1 January.
-#[derive(Drop)]
+#[derive(Clone, Copy)]
 struct Year {
     k: u32,
     start: u32,

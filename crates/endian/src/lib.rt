@@ -1,4 +1,6 @@
 // Unsigned numbers in byte slices, low byte first.
+#![tactic(auto)]
+
 ghost use Rattle.std.specs.Prelude.{◌≡◌, ◌+◌, ◌≤◌, ◌<◌, length};
 ghost use Rattle.std.proofs.lemmas.List.Edits.{sets};
 ghost use Rattle.endian.specs.Believed.Numbers.{u8_at, u16_at, u32_at, u64_at, bytes8, bytes16, bytes32, bytes64};

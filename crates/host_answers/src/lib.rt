@@ -1,4 +1,6 @@
 // What the C interface tells, in plain numbers: each answer begins with a refusal's number, or 0, and values that an answer does not have are 0.
+#![tactic(auto)]
+
 ghost use Rattle.std.specs.Prelude.{◌≡◌};
 ghost use Rattle.calendar.specs.Believed.Calendar.{date_given, minute_given};
 ghost use Rattle.policy.specs.Believed.Policy.{answer_given};
@@ -21,7 +23,7 @@ use tidy_rota::Tidied;
 
 // What reading a rota tells: the counts of its header.
 #[repr(C)]
-#[derive(Drop)]
+#[derive(Clone, Copy)]
 pub struct RotaTold {
     pub refusal: u32,
     pub cycle: u32,
@@ -36,7 +38,7 @@ pub struct RotaTold {
 
 // What reading a table tells: the counts of its header.
 #[repr(C)]
-#[derive(Drop)]
+#[derive(Clone, Copy)]
 pub struct TableTold {
     pub refusal: u32,
     pub cycle: u32,
@@ -49,7 +51,7 @@ pub struct TableTold {
 
 // What tidying tells: the tidy rota's length.
 #[repr(C)]
-#[derive(Drop)]
+#[derive(Clone, Copy)]
 pub struct TidiedTold {
     pub refusal: u32,
     pub length: u64,
@@ -57,7 +59,7 @@ pub struct TidiedTold {
 
 // What rewriting tells: the table's derived roles, rows and length.
 #[repr(C)]
-#[derive(Drop)]
+#[derive(Clone, Copy)]
 pub struct WrittenTold {
     pub refusal: u32,
     pub derived: u32,
@@ -66,7 +68,7 @@ pub struct WrittenTold {
 }
 
 #[repr(C)]
-#[derive(Drop)]
+#[derive(Clone, Copy)]
 pub struct DateTold {
     pub refusal: u32,
     pub year: u32,
@@ -78,7 +80,7 @@ pub struct DateTold {
 }
 
 #[repr(C)]
-#[derive(Drop)]
+#[derive(Clone, Copy)]
 pub struct MinuteTold {
     pub refusal: u32,
     pub minute: u32,
@@ -218,7 +220,7 @@ pub fn tell_minute(a: MinuteAnswer) -> MinuteTold
 
 // What a question or a call tells: a refusal's number, else 0; 1 for yes, else 0; the role of a yes, the count of an advance, else 0.
 #[repr(C)]
-#[derive(Drop)]
+#[derive(Clone, Copy)]
 pub struct Told {
     pub refusal: u32,
     pub yes: u32,
@@ -249,7 +251,7 @@ pub fn tell_answer(a: Answer) -> Told
 
 // What is told of the next use of a permission: 1 and its minute, or 0 and 0 for none before the end of 2400.
 #[repr(C)]
-#[derive(Drop)]
+#[derive(Clone, Copy)]
 pub struct NextTold {
     pub refusal: u32,
     pub found: u32,
@@ -279,7 +281,7 @@ pub fn tell_next(a: Next) -> NextTold
 }
 
 // The state that a call leaves, and what it tells.
-#[derive(Drop)]
+#[derive(Clone, Copy)]
 pub struct Stepped {
     pub service: Service,
     pub told: Told,

@@ -1,4 +1,6 @@
 // The calls by value with a rota and with a table, told, as the calls on a lent record use them.
+#![tactic(auto)]
+
 ghost use Rattle.std.specs.Prelude.{◌≡◌};
 ghost use Rattle.source.specs.declared.Kind.TheVariants as Kind;
 ghost use Rattle.machine.specs.Believed.Machine.{advance, «open», close, ask};

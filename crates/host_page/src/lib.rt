@@ -1,5 +1,7 @@
 // A page of questions: each record's place receives what the single question gives. The bytes are judged once, before any question; the list of
 // records is lent to the exported functions (crate softlode), whose loop is over these steps by value.
+#![tactic(auto)]
+
 ghost use Rattle.std.specs.Prelude.{◌≡◌, ltb};
 ghost use Rattle.policy.specs.Believed.Policy.{answer_given};
 ghost use Rattle.source.specs.declared.Kind.TheVariants as Kind;
@@ -12,7 +14,7 @@ use table::{Counts, TableAnswer};
 
 // What a question's record has room for: a refusal's number, or 0; 1 for yes, else 0; the role of a yes, else 0.
 #[repr(C)]
-#[derive(Drop)]
+#[derive(Clone, Copy)]
 pub struct Place {
     pub refusal: u32,
     pub yes: u32,
@@ -21,7 +23,7 @@ pub struct Place {
 
 // A question, and the place for its answer.
 #[repr(C)]
-#[derive(Drop)]
+#[derive(Clone, Copy)]
 pub struct Question {
     pub user: u32,
     pub permission: u32,
@@ -31,7 +33,7 @@ pub struct Question {
 
 // How a page begins: a refusal's number, or 0; how many questions are to be answered, none where anything is refused; and what answers them: where a
 // rota has its parts, or a table's counts, with where each role's rows begin if these are searched.
-#[derive(Drop)]
+#[derive(Clone, Copy)]
 pub struct Begun {
     pub refusal: u32,
     pub count: usize,

@@ -1,4 +1,6 @@
 // Hours: references, and one record read from its bytes; crate hours_reader has all records of a rota.
+#![tactic(auto)]
+
 ghost use Rattle.std.specs.Prelude.{◌≡◌, ◌||◌, ◌+◌, ◌*◌, ◌≤◌, ◌<◌, eqb, ltb, length};
 ghost use Rattle.ground.specs.Believed.Judgement.{in_turn};
 ghost use Rattle.hours.specs.Believed.Hours.{ref_of, dangling, holds};
@@ -8,7 +10,7 @@ ghost use Rattle.hours.specs.Answers.{hours_given, hours_outcome};
 ghost use Rattle.hours.specs.Inside.{dates_hold, pairs_hold};
 
 // An hours reference: always, or the number of an hours record.
-#[derive(Drop)]
+#[derive(Clone, Copy)]
 pub enum HoursRef {
     Always,
     Numbered(u8),
@@ -36,7 +38,7 @@ pub fn dangles(r: HoursRef, h: usize) -> bool
 }
 
 // An hours record is accepted with the number of its pairs, or refused.
-#[derive(Drop)]
+#[derive(Clone, Copy)]
 pub enum HoursAnswer {
     Accepted(u32),
     Refused(u8),

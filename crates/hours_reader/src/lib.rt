@@ -1,4 +1,6 @@
 // The hours records of a rota, one after the other: judged, and which of them hold.
+#![tactic(auto)]
+
 ghost use Rattle.std.specs.Prelude.{◌≡◌, false, ◌≤◌, ◌<◌, length};
 ghost use Rattle.ground.specs.Believed.Judgement.{in_turn};
 ghost use Rattle.hours.specs.Believed.Hours.{dangling};
@@ -8,7 +10,7 @@ ghost use Rattle.hours.specs.Inside.{RecordsRead, holding, ref_in};
 use hours::{HoursAnswer, HoursRef};
 
 // What a walk over hours records leaves: a refusal, or 0 and where the records end.
-#[derive(Drop)]
+#[derive(Clone, Copy)]
 pub struct Walk {
     pub code: u8,
     pub at: usize,

@@ -1,4 +1,6 @@
 // Which hours records hold at a minute, and how far these go on holding: by their dates and pairs, with no walk over minutes.
+#![tactic(auto)]
+
 ghost use Rattle.std.specs.Prelude.{◌≡◌, ◌%◌, ◌≤◌, ◌<◌};
 ghost use Rattle.ground.specs.Believed.Judgement.{in_turn};
 ghost use Rattle.minutes.specs.Believed.Minutes.{E};
@@ -8,14 +10,14 @@ ghost use Rattle.hours.specs.Inside.{holding};
 ghost use Rattle.hours_times.specs.Spans.{RecordReady, FirstEnding, PhaseSpan, RecordSpan, RecordsSpan};
 
 // Whether the phase is in a pair, and the phase before which that stays so.
-#[derive(Drop)]
+#[derive(Clone, Copy)]
 struct Reach {
     on: bool,
     stop: u32,
 }
 
 // Whether a record holds at a minute; where it does, it holds to before `until`, and, by the cycle, to before `era`.
-#[derive(Drop)]
+#[derive(Clone, Copy)]
 pub struct Span {
     pub on: bool,
     pub until: u32,
@@ -23,7 +25,7 @@ pub struct Span {
 }
 
 // How far some records that hold at a minute do so: to before `until`, and, by the cycle, to before `era`.
-#[derive(Drop)]
+#[derive(Clone, Copy)]
 pub struct Spans {
     pub until: u32,
     pub era: u32,

@@ -1,4 +1,6 @@
 // Reads a rota on standard input and prints its listing: all that it prints is said in crate listing_print.
+#![tactic(auto)]
+
 use libc::{STDIN_FILENO, STDOUT_FILENO};
 
 fn main() {

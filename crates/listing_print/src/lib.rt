@@ -1,4 +1,6 @@
 // The text of the listing.
+#![tactic(auto)]
+
 ghost use Rattle.listing_print.specs.Believed.Listing.{listing_of, Text};
 
 use rewrite_area::Rewritten;

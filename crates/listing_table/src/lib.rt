@@ -1,4 +1,6 @@
 // The text of a table, from its bytes.
+#![tactic(auto)]
+
 ghost use Rattle.std.specs.Prelude.{◌≡◌, ◌+◌, ◌*◌, ◌≤◌, length};
 ghost use Rattle.ground.specs.Believed.Sequence.{list_of, joined};
 ghost use Rattle.table.specs.Believed.TableBytes.{derived_of, entry_of, row_at_byte, row_of, table_of};

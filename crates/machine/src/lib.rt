@@ -1,4 +1,6 @@
 // The plain machine's state, its four calls' answers, and each call by what a policy says: its counts, and the set of those who hold a permission.
+#![tactic(auto)]
+
 ghost use Rattle.std.specs.Prelude.{◌≡◌, ◌≤◌};
 ghost use Rattle.ground.specs.Believed.Judgement.{◌or_else◌};
 ghost use Rattle.bitset.specs.Believed.Sets.{has};
@@ -11,28 +13,28 @@ use policy::Answer;
 
 // Now, a minute, and the set of users whose sessions are open.
 #[repr(C)]
-#[derive(Drop)]
+#[derive(Clone, Copy)]
 pub struct Service {
     pub now: u32,
     pub open: u64,
 }
 
 // An advance gives the count of sessions that it closed, or a refusal's number; with the state that it leaves.
-#[derive(Drop)]
+#[derive(Clone, Copy)]
 pub enum Advanced {
     Closed(u32, Service),
     Refused(u8, Service),
 }
 
 // To open or to close a session gives nothing, or a refusal's number; with the state that it leaves.
-#[derive(Drop)]
+#[derive(Clone, Copy)]
 pub enum Changed {
     Done(Service),
     Refused(u8, Service),
 }
 
 // To ask gives yes with a role, no, or a refusal's number; with the state that it leaves.
-#[derive(Drop)]
+#[derive(Clone, Copy)]
 pub enum Asked {
     Yes(u8, Service),
     No(Service),

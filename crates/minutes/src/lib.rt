@@ -1,4 +1,6 @@
 // The minutes of the archive's calendar, and the tests of a window of dates and of the cycle.
+#![tactic(auto)]
+
 ghost use Rattle.std.specs.Prelude.{◌≡◌, ◌<◌, ◌≤◌, ◌%◌, ◌+◌, min};
 ghost use Rattle.minutes.specs.Believed.Minutes.{E, within};
 ghost use Rattle.minutes.specs.First.{first_in};

@@ -1,9 +1,11 @@
 // The answers that a rota and a table share, and what both tell a sweep over minutes.
+#![tactic(auto)]
+
 ghost use Rattle.std.specs.Prelude.{◌≡◌};
 ghost use Rattle.policy.specs.Believed.Policy.{arguments_judged};
 
 // To one question: yes with the lowest role, no, or the number of a refusal.
-#[derive(Drop)]
+#[derive(Clone, Copy)]
 pub enum Answer {
     Yes(u8),
     No,
@@ -11,7 +13,7 @@ pub enum Answer {
 }
 
 // Who holds a permission at a minute; to before `until` all of them do, and, by the cycle, to before `era`.
-#[derive(Drop)]
+#[derive(Clone, Copy)]
 pub struct Held {
     pub set: u64,
     pub until: u32,

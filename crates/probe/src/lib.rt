@@ -1,5 +1,7 @@
 // Exports for the tests alone, beside those of the C interface: leaves and by-value forms of the proved crates, as numbers, byte slices and
 // plain structs.
+#![tactic(auto)]
+
 use bitset::contains;
 use hours::HoursAnswer;
 use machine::{Advanced, Asked, Changed, Service};
@@ -7,7 +9,7 @@ use source::{Kind, Lending};
 
 // A number that was found, or nothing.
 #[repr(C)]
-#[derive(Drop)]
+#[derive(Clone, Copy)]
 pub struct Found {
     pub found: u32,
     pub value: u64,
@@ -142,7 +144,7 @@ pub extern "C" fn probe_set_count_lost(before: u64, after: u64) -> u32 {
 }
 
 #[repr(C)]
-#[derive(Drop)]
+#[derive(Clone, Copy)]
 pub struct HoursJudged {
     pub refusal: u32,
     pub pairs: u32,
@@ -163,7 +165,7 @@ pub extern "C" fn probe_hours_judge(s: &[u8], at: usize, cycle: u32, total: u32)
 }
 
 #[repr(C)]
-#[derive(Drop)]
+#[derive(Clone, Copy)]
 pub struct Held {
     pub refusal: u32,
     pub holds: u32,
@@ -185,7 +187,7 @@ pub extern "C" fn probe_hours_hold(s: &[u8], cycle: u32, t: u32) -> Held {
 }
 
 #[repr(C)]
-#[derive(Drop)]
+#[derive(Clone, Copy)]
 pub struct HolderSet {
     pub refusal: u32,
     pub users: u64,
@@ -225,7 +227,7 @@ pub extern "C" fn probe_table_holders(s: &[u8], t: u32) -> HolderSet {
 
 // What a call of the service gives, and the state after it.
 #[repr(C)]
-#[derive(Drop)]
+#[derive(Clone, Copy)]
 pub struct Stepped {
     pub refusal: u32,
     pub yes: u32,

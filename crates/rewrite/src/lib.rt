@@ -1,4 +1,6 @@
 // Rewriting: from a rota's bytes to the bytes of its table.
+#![tactic(auto)]
+
 ghost use Rattle.std.specs.Prelude.{◌≡◌, ◌≤◌, length};
 ghost use Rattle.rota.specs.Inside.{Located};
 ghost use Rattle.rota.specs.Believed.RotaBytes.{roles_of, rota_of};

@@ -1,4 +1,6 @@
 // The table in the area, by way of lent scratch: written where it fits, else nothing is.
+#![tactic(auto)]
+
 ghost use Rattle.std.specs.Prelude.{◌≡◌, ◌*◌, ◌≤◌, ◌<◌, ltb, length};
 ghost use Rattle.ground.specs.Believed.Choice.{pick};
 ghost use Rattle.ground.specs.Believed.Outcome.{refused, given};
@@ -15,7 +17,7 @@ use rewrite_count::Count;
 use rota::Layout;
 
 // The numbers of derived roles and of rows, and the length, of a table that was written; or a refusal.
-#[derive(Drop)]
+#[derive(Clone, Copy)]
 pub enum Rewritten {
     Wrote {
         derived: u32,

@@ -1,4 +1,6 @@
 // The first pass over the roles of a rota: how many derived roles and rows its table has.
+#![tactic(auto)]
+
 ghost use Rattle.std.specs.Prelude.{◌≡◌, true, ◌+◌, ◌-◌, ◌≤◌, ◌<◌, length, take, drop};
 ghost use Rattle.ground.specs.Believed.Choice.{pick};
 ghost use Rattle.rota.specs.Inside.{Located};
@@ -10,7 +12,7 @@ ghost use Rattle.rewrite_count.specs.Parts.{length_with, Laid, CountedTo, KeepRo
 
 use rota::Layout;
 
-#[derive(Drop)]
+#[derive(Clone, Copy)]
 pub struct Count {
     pub entries: usize,
     pub rows: usize,

@@ -1,5 +1,7 @@
 // One role's derived roles: the distinct pairs of sets that it has over the distinct masks of the fields, in the order in which they come, and which one
 // each mask gives.
+#![tactic(auto)]
+
 ghost use Rattle.std.specs.Prelude.{◌≡◌, ◌+◌, ◌*◌, ◌<◌, ◌≤◌, length, get_or};
 ghost use Rattle.bitset.specs.Believed.Sets.{insert};
 ghost use Rattle.rewrite_trees.specs.Tree.{Indexed};
@@ -10,7 +12,7 @@ ghost use Rattle.rewrite_derive.specs.Derive.{role_made, Ready, Settled, Stepped
 use rewrite_sets::Role;
 
 // The mark of a mask, and how many derived roles there are with it.
-#[derive(Drop)]
+#[derive(Clone, Copy)]
 pub struct Step {
     pub mark: usize,
     pub entries: usize,

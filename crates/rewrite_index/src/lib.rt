@@ -1,4 +1,6 @@
 // Pairs of sets, or single keys, in the order in which they first come, each once, and an index that finds one among them, by the trees of crate rewrite_trees.
+#![tactic(auto)]
+
 ghost use Rattle.std.specs.Prelude.{◌≡◌, List, ℕ, ◌+◌, ◌*◌, ◌<◌, ◌≤◌, length};
 ghost use Rattle.table.specs.Inside.{entry_made};
 ghost use Rattle.rewrite_index.specs.Entries.{Entered, KeyEntered, with_pair, linked, after};

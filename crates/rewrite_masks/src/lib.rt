@@ -1,6 +1,8 @@
 // The fields of a rota by kind. What a role has in a field depends only on the mask of the field, which is the set of hours that hold there; the distinct
 // masks are numbered once for all roles, in the order of their first fields. A field without a minute is of kind 0, one with mask k of kind k + 1.
 // Neighbours of one era often have the same mask, so kinds are laid out by stretches: the kind of some neighbouring fields, and how many these are.
+#![tactic(auto)]
+
 ghost use Rattle.std.specs.Prelude.{◌≡◌, ℕ, ◌+◌, ◌*◌, ◌≤◌, ◌<◌, length, get_or, take, drop, replicate};
 ghost use Rattle.rota.specs.Inside.{Located};
 ghost use Rattle.rewrite_rules.specs.Kinds.{masks_from, masks_in};
@@ -10,14 +12,14 @@ ghost use Rattle.rewrite_masks.specs.Kinds.{Told, Held, Found, RowRoom, Room, La
 use rota::Layout;
 
 // The kind of a mask, and how many distinct masks there are with it.
-#[derive(Drop)]
+#[derive(Clone, Copy)]
 pub struct Kind {
     pub kind: usize,
     pub masks: usize,
 }
 
 // Where the stretches of an era end, and how many distinct masks there are then.
-#[derive(Drop)]
+#[derive(Clone, Copy)]
 pub struct EraNumbered {
     pub end: usize,
     pub masks: usize,

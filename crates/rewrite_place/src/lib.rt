@@ -1,4 +1,6 @@
 // A table put into an area: written where it fits, else nothing is.
+#![tactic(auto)]
+
 ghost use Rattle.std.specs.Prelude.{◌≡◌, true, ◌+◌, ◌-◌, ◌*◌, ◌≤◌, ◌<◌, leb, length};
 ghost use Rattle.rota.specs.Inside.{Located};
 ghost use Rattle.rota.specs.Believed.RotaBytes.{roles_of, rota_of};

@@ -1,4 +1,6 @@
 // One role of a rota, read from its bytes and derived.
+#![tactic(auto)]
+
 ghost use Rattle.std.specs.Prelude.{◌≡◌, ◌<◌};
 ghost use Rattle.ground.specs.Believed.Sequence.{list_of};
 ghost use Rattle.rota.specs.Inside.{Located};

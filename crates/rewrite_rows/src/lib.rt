@@ -1,6 +1,8 @@
 // A role's entries and rows, written as bytes of a table. A field has the mark of its kind: 0, or one more than the place of its derived role. Fields
 // come in stretches: neighbouring fields of one era that are of one kind. Stretch j is lens[j] fields of the kind kinds[j], and the stretches of era e
 // are those from ends[e] to before ends[e + 1].
+#![tactic(auto)]
+
 ghost use Rattle.std.specs.Prelude.{◌≡◌, ℕ, ◌+◌, ◌*◌, ◌<◌, ◌≤◌, [], length, get_or, take};
 ghost use Rattle.std.proofs.lemmas.List.Edits.{sets};
 ghost use Rattle.std.proofs.Math.Seq.{slice};

@@ -1,4 +1,6 @@
 // Scratch for the rewriting, by the number of fields.
+#![tactic(auto)]
+
 ghost use Rattle.std.specs.Prelude.{◌≡◌, ◌*◌, ◌≤◌, length};
 ghost use Rattle.rota.specs.Inside.{Located};
 ghost use Rattle.rota.specs.Believed.RotaBytes.{roles_of, rota_of};

@@ -1,4 +1,6 @@
 // What a role has in one field, and the mark of the field.
+#![tactic(auto)]
+
 ghost use Rattle.std.specs.Prelude.{◌≡◌, ◌+◌, ◌*◌, ◌<◌, ◌≤◌, length};
 ghost use Rattle.rewrite_unions.specs.Union.{used_in};
 ghost use Rattle.rewrite_unions.specs.Tables.{Tabled};
@@ -7,7 +9,7 @@ ghost use Rattle.rewrite_sets.specs.Role.{sets_made, kept_with, Gathered};
 ghost use Rattle.rewrite_sets.specs.Mark.{grown, Marked};
 
 // A role: its number, the slot of the hours in which it is enabled, and its users and permissions by slot. Slot k is hours record k, 32 is always.
-#[derive(Drop)]
+#[derive(Clone, Copy)]
 pub struct Role {
     pub source: u8,
     pub on: u32,
@@ -15,7 +17,7 @@ pub struct Role {
     pub permissions: [u64; 33],
 }
 
-#[derive(Drop)]
+#[derive(Clone, Copy)]
 pub struct Sets {
     pub users: u64,
     pub permissions: u64,

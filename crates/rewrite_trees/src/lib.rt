@@ -4,13 +4,15 @@
 // at each call: about as many as there are pairs is best, since few trees make long walks and many roots take time to clear. A walk turns at each pair
 // by one member, of those that any pair can have, and goes on without it: however the pairs are chosen, it looks at no more of them than there are
 // such members, and one. An index of single keys of 32 bits, where each is one number of the list, is the same with a key as a pair of it and the empty set.
+#![tactic(auto)]
+
 ghost use Rattle.std.specs.Prelude.{◌≡◌, ◌+◌, ◌*◌, ◌<◌, ◌≤◌, length};
 ghost use Rattle.ground.specs.Believed.Search.{one};
 ghost use Rattle.bitset.specs.Believed.Sets.{has};
 ghost use Rattle.rewrite_trees.specs.Tree.{Turned, bucket_of, Within, key_pairs, Indexed, Sought};
 
 // A turn of a walk: to which side, and which members are left to go by.
-#[derive(Drop)]
+#[derive(Clone, Copy)]
 pub struct Turn {
     pub side: usize,
     pub users: u64,
@@ -18,7 +20,7 @@ pub struct Turn {
 }
 
 // Where a pair was found; or, where there is none, the place of the links that would have it.
-#[derive(Drop)]
+#[derive(Clone, Copy)]
 pub struct Found {
     pub place: usize,
     pub hook: usize,

@@ -1,4 +1,6 @@
 // Sets by slot: slot k is hours record k, 32 is always. Their unions over a mask, one by one and from a table.
+#![tactic(auto)]
+
 ghost use Rattle.std.specs.Prelude.{◌≡◌, [], ◌∷◌, ◌+◌, ◌≤◌, length};
 ghost use Rattle.rewrite_unions.specs.Union.{used_in, union_of};
 ghost use Rattle.rewrite_unions.specs.Tables.{stored, with_two, choices, Tabled};

@@ -1,4 +1,6 @@
 // The rota: reading it.
+#![tactic(auto)]
+
 ghost use Rattle.std.specs.Prelude.{◌≡◌, ◌+◌, ◌*◌, ◌≤◌, ◌<◌, ltb, length};
 ghost use Rattle.ground.specs.Believed.Judgement.{in_turn};
 ghost use Rattle.ground.specs.Believed.Search.{any_below};
@@ -11,7 +13,7 @@ ghost use Rattle.rota.specs.Inside.{layout_given, layout_outcome, rest_judged, M
 use hours::decode;
 
 // The counts of an accepted rota's header.
-#[derive(Drop)]
+#[derive(Clone, Copy)]
 pub struct Counts {
     pub cycle: u32,
     pub hours: u32,
@@ -24,14 +26,14 @@ pub struct Counts {
 }
 
 // A rota is accepted with its counts, or refused.
-#[derive(Drop)]
+#[derive(Clone, Copy)]
 pub enum RotaAnswer {
     Accepted(Counts),
     Refused(u8),
 }
 
 // The counts of an accepted rota, and where its hours records, role bytes and rows begin.
-#[derive(Drop)]
+#[derive(Clone, Copy)]
 pub struct Layout {
     pub counts: Counts,
     pub hours_at: usize,
@@ -40,7 +42,7 @@ pub struct Layout {
     pub permission_rows_at: usize,
 }
 
-#[derive(Drop)]
+#[derive(Clone, Copy)]
 pub enum LayoutAnswer {
     Accepted(Layout),
     Refused(u8),

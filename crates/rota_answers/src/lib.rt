@@ -1,4 +1,6 @@
 // What an accepted rota answers: one question to it, and who holds a permission.
+#![tactic(auto)]
+
 ghost use Rattle.std.specs.Prelude.{◌≡◌, false, ◌&&◌, ◌+◌, ◌≤◌, ◌<◌, eqb, length};
 ghost use Rattle.ground.specs.Believed.Outcome.{given};
 ghost use Rattle.bitset.specs.Believed.Sets.{has};

@@ -1,5 +1,7 @@
 // Who holds a permission by an accepted rota at a minute, and for how long: what those who hold one rest on are some hours records, for each of them
 // enough to hold one by.
+#![tactic(auto)]
+
 ghost use Rattle.std.specs.Prelude.{◌≡◌, true, ◌≤◌, ◌<◌, length};
 ghost use Rattle.bitset.specs.Believed.Sets.{has, insert, intersection};
 ghost use Rattle.endian.specs.Believed.Numbers.{u8_at};
@@ -17,7 +19,7 @@ use policy::Held;
 use rota::Layout;
 
 // Who is found, and the numbers of the records that these rest on.
-#[derive(Drop)]
+#[derive(Clone, Copy)]
 pub struct Rest {
     pub found: u64,
     pub on: u64,

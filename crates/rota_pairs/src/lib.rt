@@ -1,5 +1,7 @@
 // Pairs of a senior and a junior role, ahead of request 8: those that bytes hold, with refusal 54, the juniors of each role as a set, and the roles
 // whose own permissions a role has.
+#![tactic(auto)]
+
 ghost use Rattle.std.specs.Prelude.{◌≡◌, ◌≤◌, ◌+◌, ◌*◌, ◌<◌, length, replicate};
 ghost use Rattle.rota_pairs.specs.HandedDown.{handed_down, JuniorsAre};
 ghost use Rattle.rota_pairs.specs.Hierarchy.{PairsWell};

@@ -1,6 +1,8 @@
 // Rows of three bytes, a number, a role and an hours reference: whether one of many has a byte out of range, whether one of sixteen has a given number,
 // and whether one of many is not above the one before. Sixteen rows are 48 bytes and are looked at together, each byte against a range of its own or
 // the next row's byte and without stopping, so that the compiler can make vector code of it. One row is judged by what its bytes stand for.
+#![tactic(auto)]
+
 ghost use Rattle.std.specs.Prelude.{◌≡◌, ◌+◌, ◌-◌, ◌*◌, ◌≤◌, ◌<◌, ◌&&◌, leb, eqb, length};
 ghost use Rattle.ground.specs.Believed.Choice.{pick};
 ghost use Rattle.ground.specs.Believed.Search.{any_below, one};

@@ -1,4 +1,6 @@
 // The service over a lent rota or a lent table: the four calls by value.
+#![tactic(auto)]
+
 ghost use Rattle.std.specs.Prelude.{◌≡◌};
 ghost use Rattle.machine.specs.Believed.Machine.{advance, «open», close, ask};
 ghost use Rattle.machine.specs.Answers.{advanced_step, changed_step, asked_step};

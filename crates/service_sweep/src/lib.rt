@@ -1,5 +1,7 @@
 // Who holds a permission at each minute of a stretch, by a lent rota or table. The sweep goes from one minute at which somebody may cease to hold one to
 // the next; one cycle is enough as far as nothing that was seen ends for good.
+#![tactic(auto)]
+
 ghost use Rattle.std.specs.Prelude.{◌≡◌, ◌⊎◌, ◌+◌, ◌^◌, ◌≤◌, ◌<◌};
 ghost use Rattle.minutes.specs.Believed.Minutes.{E};
 ghost use Rattle.policy.specs.Believed.Steady.{steady_over};
@@ -9,7 +11,7 @@ ghost use Rattle.source.specs.Inside.{kind_of, users_of, Lends, Prepared};
 use source::Source;
 
 // Who holds a permission at each minute to before `next`; and how many minutes it paid to look ahead, which promises nothing.
-#[derive(Drop)]
+#[derive(Clone, Copy)]
 struct Turn {
     set: u64,
     next: u32,

@@ -1,4 +1,6 @@
 // The C interface for the host: numbers, byte slices and plain structs. The service record is lent to each call, a thin one over the call by value.
+#![tactic(auto)]
+
 ghost use Rattle.std.specs.Prelude.{◌≡◌, length};
 ghost use Rattle.calendar.specs.Believed.Calendar.{date_of, minute_of};
 ghost use Rattle.policy.specs.Believed.Policy.{question};

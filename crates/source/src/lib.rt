@@ -1,4 +1,6 @@
 // What a service is lent: the bytes of a rota or of a table, judged once, and asked in the same words from then on.
+#![tactic(auto)]
+
 ghost use Rattle.std.specs.Prelude.{◌≡◌, ◌<◌};
 ghost use Rattle.ground.specs.Believed.Outcome.{given};
 ghost use Rattle.minutes.specs.Believed.Minutes.{E};
@@ -12,21 +14,21 @@ use rota::{Layout, LayoutAnswer};
 use table::{Counts, TableAnswer};
 
 // As which of the two the bytes are lent.
-#[derive(Drop)]
+#[derive(Clone, Copy)]
 pub enum Kind {
     Rota,
     Table,
 }
 
 // Where an accepted rota has its parts; the counts of an accepted table.
-#[derive(Drop)]
+#[derive(Clone, Copy)]
 pub enum Source {
     Rota(Layout),
     Table(Counts),
 }
 
 // Bytes are lent, or refused.
-#[derive(Drop)]
+#[derive(Clone, Copy)]
 pub enum Lending {
     Lent(Source),
     Refused(u8),

@@ -1,4 +1,6 @@
 // The flat table: its header, one entry and one row, read and judged; crate table_reader reads a whole table.
+#![tactic(auto)]
+
 ghost use Rattle.std.specs.Prelude.{◌≡◌, ◌+◌, ◌≤◌, length};
 ghost use Rattle.endian.specs.Believed.Numbers.{u8_at};
 ghost use Rattle.table.specs.Believed.TableBytes.{entry_at_byte, row_at_byte};
@@ -7,7 +9,7 @@ ghost use Rattle.table.specs.Believed.Answers.{counts_of, table_given};
 ghost use Rattle.table.specs.Inside.{header_outcome, window_given, row_made};
 
 // The counts of an accepted table's header.
-#[derive(Drop)]
+#[derive(Clone, Copy)]
 pub struct Counts {
     pub cycle: u32,
     pub users: u32,
@@ -18,14 +20,14 @@ pub struct Counts {
 }
 
 // A table is accepted with its counts, or refused.
-#[derive(Drop)]
+#[derive(Clone, Copy)]
 pub enum TableAnswer {
     Accepted(Counts),
     Refused(u8),
 }
 
 // The window of a row.
-#[derive(Drop)]
+#[derive(Clone, Copy)]
 pub struct Window {
     pub begin: u32,
     pub end: u32,

@@ -1,4 +1,6 @@
 // What an accepted table answers: one question to it, and who holds a permission.
+#![tactic(auto)]
+
 ghost use Rattle.std.specs.Prelude.{◌≡◌, ◌+◌, ◌*◌, ◌%◌, ◌≤◌, ◌<◌, length};
 ghost use Rattle.ground.specs.Believed.Outcome.{given};
 ghost use Rattle.endian.specs.Believed.Numbers.{u32_at};

@@ -1,4 +1,6 @@
 // The staff board: for one minute, from a table, the permissions of every user and the number of rows that enable their derived role then.
+#![tactic(auto)]
+
 ghost use Rattle.std.specs.Prelude.{◌≡◌, ◌%◌, ◌≤◌, length};
 ghost use Rattle.ground.specs.Believed.Outcome.{given};
 ghost use Rattle.ground.specs.Believed.Outcome as Outcome;
@@ -12,7 +14,7 @@ use table::{Counts, TableAnswer};
 
 // What the board tells: a refusal's number, or 0; the rows; and the permissions of each user number. Where refused, all else is 0.
 #[repr(C)]
-#[derive(Drop)]
+#[derive(Clone, Copy)]
 pub struct Board {
     pub refusal: u32,
     pub rows: u32,

@@ -1,5 +1,7 @@
 // Who of a set holds a permission at a minute by an accepted table, and how far each of them surely goes on to: by one row of each role, and the rows
 // that go on where it stops. Nothing is taken away by a row that begins, so no other row counts.
+#![tactic(auto)]
+
 ghost use Rattle.std.specs.Prelude.{◌≡◌, true, ◌+◌, ◌*◌, ◌%◌, ◌≤◌, ◌<◌};
 ghost use Rattle.minutes.specs.Believed.Minutes.{E};
 ghost use Rattle.policy.specs.Believed.Policy.{holders_at};
@@ -34,7 +36,7 @@ fn goes_on(s: &[u8], at: usize, t: u32, stop: u32, era: u32, gain: u64) -> bool
 }
 
 // The phase to which rows go on, and the last of these rows.
-#[derive(Drop)]
+#[derive(Clone, Copy)]
 struct Run {
     stop: u32,
     last: usize,
@@ -84,7 +86,7 @@ fn follow(
 }
 
 // Who holds a permission; and the last row that was looked at with the minute at which it stops, from which a later search may begin.
-#[derive(Drop)]
+#[derive(Clone, Copy)]
 struct Passed {
     held: Held,
     last: usize,

@@ -1,4 +1,6 @@
 // When a permission can next be used, by an accepted table: one pass over its rows.
+#![tactic(auto)]
+
 ghost use Rattle.std.specs.Prelude.{◌≡◌, ◌+◌, ◌*◌, ◌≤◌, ◌<◌, min};
 ghost use Rattle.minutes.specs.Believed.Minutes.{E};
 ghost use Rattle.policy.specs.Believed.NextUse.{next_use_question};
@@ -13,7 +15,7 @@ ghost use Rattle.table_next.specs.FirstUse.{first_of_rows, idle, first_use};
 use table::{Counts, TableAnswer};
 
 // The first minute, none before the end of 2400, or the number of a refusal.
-#[derive(Drop)]
+#[derive(Clone, Copy)]
 pub enum Next {
     At(u32),
     Never,

@@ -1,5 +1,7 @@
 // Questions to an accepted table: the row of each role is searched for, where the roles have more than a few rows. For one question the search goes
 // over all rows, for many over the rows of each role, which are found once.
+#![tactic(auto)]
+
 ghost use Rattle.std.specs.Prelude.{◌≡◌, ◌+◌, ◌%◌, ◌≤◌, ◌<◌, length};
 ghost use Rattle.ground.specs.Believed.Outcome.{given};
 ghost use Rattle.policy.specs.Believed.Policy.{question, answer_given};

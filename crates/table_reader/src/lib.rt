@@ -1,4 +1,6 @@
 // Reading a table: its entries, then its rows, each in turn.
+#![tactic(auto)]
+
 ghost use Rattle.std.specs.Prelude.{◌≡◌};
 ghost use Rattle.ground.specs.Believed.Judgement.{in_turn};
 ghost use Rattle.table.specs.Believed.TableRefusals.{entry_judged, row_judged};

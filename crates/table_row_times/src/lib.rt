@@ -1,4 +1,6 @@
 // One row of an accepted table: its source role, and the first minute at which it grants a permission.
+#![tactic(auto)]
+
 ghost use Rattle.std.specs.Prelude.{◌≡◌, ◌≤◌, ◌<◌, max};
 ghost use Rattle.ground.specs.From.{first_from};
 ghost use Rattle.minutes.specs.Believed.Minutes.{E, covers};

@@ -1,4 +1,6 @@
 // The row of a source role of an accepted table that covers a minute: looked for where it is likely to be, else by halving.
+#![tactic(auto)]
+
 ghost use Rattle.std.specs.Prelude.{◌≡◌, ◌%◌, ◌≤◌, ◌<◌};
 ghost use Rattle.table.specs.Believed.TableBytes.{cycle_of};
 ghost use Rattle.table.specs.Inside.{Opened};
@@ -66,7 +68,7 @@ fn wider(step: usize) -> usize
 }
 
 // A row, or the number of rows; and where a search at a later minute may begin, which promises nothing.
-#[derive(Drop)]
+#[derive(Clone, Copy)]
 pub struct Found {
     pub row: usize,
     pub next: usize,

@@ -1,4 +1,6 @@
 // Writing a table's parts.
+#![tactic(auto)]
+
 ghost use Rattle.std.specs.Prelude.{◌≡◌, ◌+◌, ◌≤◌, ◌<◌, length};
 ghost use Rattle.std.proofs.lemmas.List.Edits.{sets};
 ghost use Rattle.table.specs.Believed.TableBytes.{header_bytes, entry_bytes, row_bytes};

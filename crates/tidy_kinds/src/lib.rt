@@ -1,5 +1,7 @@
 // The rows of one kind of an accepted rota in order, each once: copied where they are so already, put in place one by one where they are few, else
 // gathered into sets.
+#![tactic(auto)]
+
 ghost use Rattle.std.specs.Prelude.{◌≡◌, ◌+◌, ◌*◌, ◌≤◌, length};
 ghost use Rattle.std.proofs.lemmas.List.Edits.{sets as stores};
 ghost use Rattle.tidy_rules.specs.Inside.{KindFine, kind_rows, kind_bytes};

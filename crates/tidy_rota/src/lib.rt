@@ -1,4 +1,6 @@
 // The tidy rota of any accepted rota: format 3, rows in order, each once.
+#![tactic(auto)]
+
 ghost use Rattle.std.specs.Prelude.{◌≡◌, ◌≤◌, ltb, length};
 ghost use Rattle.std.proofs.lemmas.List.Edits.{sets as stores};
 ghost use Rattle.rota.specs.Inside.{Located};
@@ -9,7 +11,7 @@ ghost use Rattle.tidy_rota.specs.Answers.{tidied_given};
 use rota::{Layout, LayoutAnswer};
 
 // A tidy rota is written, and so long, or refused.
-#[derive(Drop)]
+#[derive(Clone, Copy)]
 pub enum Tidied {
     Wrote(usize),
     Refused(u8),
