@@ -1,0 +1,14 @@
+use Rattle.listing_lines.proofs.PutLaws.{put-more}
+use Rattle.listing_lines.specs.Believed.Lines.{ascii, decimal, refused_line}
+use native.Mathlib.Omega.{arith}
+use borrow.Author.Rules.{rules}
+use Rattle.listing_lines.proofs.refused_line.Goals as goal
+
+slice-aggregate-put-word : tie.Need-slice-aggregate-put-word
+slice-aggregate-put-word c = search rules
+
+pub returns : goal.returns
+unfolding ascii refused_line
+returns c =
+    let a = c.args in
+    (put-more (decimal a.n) (ascii "\n") c.put_word-at.ensures c.put_number.ensures.0, omega arith)

@@ -1,0 +1,34 @@
+-- The records so far whose dates hold are gathered.
+use Prim.Native.Nat.{◌-◌}
+use native.Mathlib.Omega.{arith}
+use mathlib.Core.Path.{◌∙◌}
+use mathlib.Core.Logic.{⊎_elim}
+use Rattle.hours_reader.proofs.WalkLaws.{gather_none, gather-in, gather-out, gather-all}
+use Rattle.rewrite_cuts.proofs.RecordLaws.{walk-within, few-hours}
+use Rattle.rewrite_grid.proofs.era_mask.Goals as goal
+
+pub loop-k-init : goal.loop-k-init
+loop-k-init c = rw c.requires.1 (gather_none _ _ _ _)
+
+pub dates_hold-requires : goal.dates_hold-requires
+dates_hold-requires c = omega (arith, walk-within c.loop-k.invariant.passed c.requires.0 c.requires.2 c.loop-k-test.true)
+
+pub overflow_cast-k : goal.overflow_cast-k
+overflow_cast-k c = omega (arith, few-hours _ c.requires.0)
+
+pub with-set-requires : goal.with-set-requires
+with-set-requires c = omega (arith, few-hours _ c.requires.0)
+
+pub next_record-at-requires : goal.next_record-at-requires
+next_record-at-requires c = walk-within c.loop-k.invariant.passed c.requires.0 c.requires.2 c.loop-k-test.true
+
+pub loop-k-preserved : goal.loop-k-preserved
+loop-k-preserved c = let w = c.loop-k.invariant in
+    let top = few-hours _ c.requires.0 in
+    ⊎_elim
+    (λ v. gather-in _ _ _ _ w c.loop-k-test.true (omega arith) c.dates_hold.ensures c.next_record-at.ensures v.0.taken (v.2 ∙ v.1.ensures))
+    (λ v. gather-out _ _ _ _ w c.loop-k-test.true (omega arith) c.dates_hold.ensures c.next_record-at.ensures v.0.left v.1)
+    c.if-dates_hold.branch
+
+pub returns : goal.returns
+returns c = gather-all _ _ _ _ c.loop-k.invariant c.loop-k-test.false

@@ -1,0 +1,69 @@
+-- The pairs so far are done, and the cells before `from` lie before the next.
+use Prim.Native.Nat.{◌-◌}
+use native.Mathlib.Omega.{arith}
+use Rattle.rewrite_cuts.proofs.RecordLaws.{few-hours}
+use Rattle.rewrite_grid.proofs.JoinLaws.{record-well, pair-start, pair-ready, pair-more, pairs-joined}
+use Rattle.rewrite_grid.proofs.fill_record.Goals as goal
+
+pub overflow_add-at : goal.overflow_add-at
+overflow_add-at c = omega (arith, (record-well _ _ _ c.requires.0 c.requires.1 c.requires.2).within)
+
+pub read16-count-requires : goal.read16-count-requires
+read16-count-requires c = omega (arith, (record-well _ _ _ c.requires.0 c.requires.1 c.requires.2).within)
+
+pub loop-q-init : goal.loop-q-init
+loop-q-init c = pair-start _ _ _ _ _ _
+
+pub overflow_add-at-in-loop-q : goal.overflow_add-at-in-loop-q
+overflow_add-at-in-loop-q c = omega (arith, (record-well _ _ _ c.requires.0 c.requires.1 c.requires.2).within, c.loop-q-test.true, c.read16-count.ensures)
+
+pub overflow_mul-q : goal.overflow_mul-q
+overflow_mul-q c = omega (arith, (record-well _ _ _ c.requires.0 c.requires.1 c.requires.2).within, c.loop-q-test.true, c.read16-count.ensures)
+
+pub overflow_add-at-in-loop-q-2 : goal.overflow_add-at-in-loop-q-2
+overflow_add-at-in-loop-q-2 c = omega (arith, (record-well _ _ _ c.requires.0 c.requires.1 c.requires.2).within, c.loop-q-test.true, c.read16-count.ensures)
+
+pub read16-offset-requires : goal.read16-offset-requires
+read16-offset-requires c = omega (arith, (record-well _ _ _ c.requires.0 c.requires.1 c.requires.2).within, c.loop-q-test.true, c.read16-count.ensures)
+
+pub overflow_add-at-in-loop-q-3 : goal.overflow_add-at-in-loop-q-3
+overflow_add-at-in-loop-q-3 c = omega (arith, (record-well _ _ _ c.requires.0 c.requires.1 c.requires.2).within, c.loop-q-test.true, c.read16-count.ensures)
+
+pub overflow_mul-q-in-loop-q : goal.overflow_mul-q-in-loop-q
+overflow_mul-q-in-loop-q c = omega (arith, (record-well _ _ _ c.requires.0 c.requires.1 c.requires.2).within, c.loop-q-test.true, c.read16-count.ensures)
+
+pub overflow_add-at-in-loop-q-4 : goal.overflow_add-at-in-loop-q-4
+overflow_add-at-in-loop-q-4 c = omega (arith, (record-well _ _ _ c.requires.0 c.requires.1 c.requires.2).within, c.loop-q-test.true, c.read16-count.ensures)
+
+pub overflow_add-at-in-loop-q-5 : goal.overflow_add-at-in-loop-q-5
+overflow_add-at-in-loop-q-5 c = omega (arith, (record-well _ _ _ c.requires.0 c.requires.1 c.requires.2).within, c.loop-q-test.true, c.read16-count.ensures)
+
+pub read16-requires : goal.read16-requires
+read16-requires c = omega (arith, (record-well _ _ _ c.requires.0 c.requires.1 c.requires.2).within, c.loop-q-test.true, c.read16-count.ensures)
+
+pub overflow_cast-k : goal.overflow_cast-k
+overflow_cast-k c = omega (arith, few-hours _ c.requires.0, c.requires.1)
+
+pub fill_pair-from-requires : goal.fill_pair-from-requires
+fill_pair-from-requires c =
+    let p = c.requires in
+    let w = c.loop-q.invariant in (
+      p.3,
+      omega (arith, p.4, w.long),
+      omega (arith, few-hours _ p.0, p.1),
+      omega arith,
+      w.most,
+      pair-ready w _ _ c.read16-offset.ensures c.read16.ensures (record-well _ _ _ c.requires.0 c.requires.1 c.requires.2) (omega (arith, c.loop-q-test.true, c.read16-count.ensures)),
+      p.5,
+    )
+
+pub loop-q-preserved : goal.loop-q-preserved
+loop-q-preserved c =
+    let f = c.fill_pair-from in
+    pair-more c.loop-q.invariant _ _ c.read16-offset.ensures c.read16.ensures (omega (arith, c.loop-q-test.true, c.read16-count.ensures)) f.auto.1.1.1.1.1.1.0 f.ensures
+
+pub shape_of-sets : goal.shape_of-sets
+shape_of-sets c = c.loop-q.invariant.long
+
+pub returns : goal.returns
+returns c = pairs-joined c.loop-q.invariant (omega (arith, c.loop-q-test.false, c.read16-count.ensures))

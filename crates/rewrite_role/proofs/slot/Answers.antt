@@ -1,0 +1,11 @@
+use mathlib.Core.Path.{ap, sym}
+use Rattle.rewrite_rules.specs.Masks.{slot_of}
+use Rattle.rewrite_role.proofs.slot.Goals as goal
+
+pub returns-in-Always : goal.returns-in-Always
+unfolding slot_of
+returns-in-Always c = ap slot_of (sym c.enum_told-1.given.1)
+
+pub returns-in-Numbered : goal.returns-in-Numbered
+unfolding slot_of
+returns-in-Numbered c = ap slot_of (sym c.r-1.given.1)

@@ -1,0 +1,23 @@
+-- The roles so far are gathered.
+use Prim.Native.Nat.{◌-◌}
+use mathlib.Core.Path.{refl, ◌∙◌}
+use mathlib.Core.Logic.{⊎_elim}
+use native.Mathlib.Nat.{le_antisymm}
+use native.Mathlib.Omega.{arith}
+use Rattle.rota_holding.proofs.PermittedLaws.{given-none, given-in, given_out}
+use Rattle.rota_holding.proofs.given.Goals as goal
+
+pub loop-k-init : goal.loop-k-init
+loop-k-init c = (omega arith, given-none _ _)
+
+pub loop-k-preserved : goal.loop-k-preserved
+loop-k-preserved c = let l = c.loop-k in (
+  omega arith,
+  ⊎_elim
+      (λ w. given-in _ _ _ _ _ _ _ _ (omega (arith, c.requires, c.loop-k-test.true)) l.invariant.1 c.with-on.ensures refl c.both.ensures w.0.taken (w.2 ∙ w.1.ensures))
+      (λ w. given_out _ _ _ _ _ _ _ _ (omega (arith, c.requires, c.loop-k-test.true)) l.invariant.1 c.with-on.ensures refl c.both.ensures w.0.left w.1)
+      c.if-both-ne0.branch,
+)
+
+pub returns : goal.returns
+returns c = rw (← (le_antisymm c.loop-k.invariant.0 c.loop-k-test.false)) c.loop-k.invariant.1
