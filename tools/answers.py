@@ -87,11 +87,31 @@ def turn(path, names):
     invs = [o for o in order if "tie.invariant" in by_name[o] or "tie.decreases" in by_name[o]]
     goals = [o for o in order if o not in invs]
 
+    arms = []
+    for p, a in zip(n["places"], n["arms"]):
+        if a:
+            for new, old, way in a[2]:
+                if way:
+                    arms.append((norm(old), way, f"{a[0]}.{new}"))
+    pre = (n["pre"] or {}).get("fields")
+    asked = {norm(k): v for k, v in n["asked"].items()}
+
     def path_sub(s):
         def one(m):
             f = m[2]
             rest = m[3] or ""
             nf = norm(f)
+            parts = rest.split(".")[1:]
+            best = None
+            for old, way, new in arms:
+                if old == nf and parts[: len(way)] == way and (best is None or len(way) > best[0]):
+                    best = (len(way), new)
+            if best:
+                return m[1] + "." + best[1] + "".join("." + x for x in parts[best[0]:])
+            if nf == "requires" and pre:
+                if parts and parts[0].isdigit():
+                    return m[1] + ".requires." + pre[int(parts[0])] + "".join("." + x for x in parts[1:])
+                left.append(f"{path}: requires whole, which is {pre}")
             if nf in ("args", "requires", "ranges", "initial", "well-formed", "auto", "type-inv"):
                 return m[1] + "." + f + rest
             if nf in steps:
@@ -195,6 +215,16 @@ def turn(path, names):
             body = alias(body[len(o):])
             body = path_sub(body)
             body = re.sub(r"^ c κs\b", " c", body)
+            if pre:
+                for a in re.findall(r"let (\w+) = c\.requires in", body):
+                    body = re.sub(rf"(?<![\w.'-]){a}\.(\d+)", lambda m: f"{a}.{pre[int(m[1])]}", body)
+            fields = asked.get(PREFIX.sub("", norm(re.search(r"tie\.Need-([^\s)]+)", lines[0])[1])))
+            if fields:
+                made = whole_record(body, fields)
+                if made:
+                    body = made
+                else:
+                    left.append(f"{path}: {new} is a record of {fields}")
             if not between and re.fullmatch(r" c = search rules", body.strip("\n")):
                 continue
             if new in seen:
@@ -238,6 +268,35 @@ def turn(path, names):
     write("Answers.antt", "Goals", answers)
     os.remove(path)
     return left
+
+
+def whole_record(body, fields):
+    """` c = .. (a, b)` as ` c = .. record { f = a; g = b }`: the tuple that ends the body, taken apart at its top."""
+    text = body.rstrip()
+    if not text.endswith(")"):
+        return None
+    depth, k = 0, len(text) - 1
+    while k >= 0:
+        depth += (text[k] in ")]}") - (text[k] in "([{")
+        if depth == 0:
+            break
+        k -= 1
+    before, inner = text[:k], text[k + 1: -1]
+    if not re.search(r"(=|\bin)\s*$", before):
+        return None
+    parts, depth, cur = [], 0, ""
+    for ch in inner:
+        depth += (ch in "([{") - (ch in ")]}")
+        if ch == "," and depth == 0:
+            parts.append(cur.strip())
+            cur = ""
+        else:
+            cur += ch
+    if cur.strip():
+        parts.append(cur.strip())
+    if len(parts) != len(fields):
+        return None
+    return before + "record { " + "; ".join(f"{f} = {p}" for f, p in zip(fields, parts)) + " }"
 
 
 def uses_name(item, body):

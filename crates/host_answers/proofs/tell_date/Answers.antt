@@ -5,7 +5,7 @@ use Rattle.host_answers.proofs.ToldLaws.{told}
 use Rattle.host_answers.proofs.tell_date.Goals as goal
 
 pub returns-in-On : goal.returns-in-On
-returns-in-On c = told date_told date_given c.a-1.given.1 refl
+returns-in-On c = told date_told date_given c.in-On.is refl
 
 pub returns-in-Refused : goal.returns-in-Refused
-returns-in-Refused c = told date_told date_given c.a-in-Refused-1.given.1 refl
+returns-in-Refused c = told date_told date_given c.in-Refused.is refl

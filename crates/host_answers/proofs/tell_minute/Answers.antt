@@ -5,7 +5,7 @@ use Rattle.host_answers.proofs.ToldLaws.{told}
 use Rattle.host_answers.proofs.tell_minute.Goals as goal
 
 pub returns-in-At : goal.returns-in-At
-returns-in-At c = told minute_told minute_given c.a-1.given.1 refl
+returns-in-At c = told minute_told minute_given c.in-At.is refl
 
 pub returns-in-Refused : goal.returns-in-Refused
-returns-in-Refused c = told minute_told minute_given c.a-in-Refused-1.given.1 refl
+returns-in-Refused c = told minute_told minute_given c.in-Refused.is refl

@@ -5,10 +5,10 @@ use Rattle.host_answers.proofs.ToldLaws.{told}
 use Rattle.host_answers.proofs.tell_next.Goals as goal
 
 pub returns-in-At : goal.returns-in-At
-returns-in-At c = told next_told next_given c.a-1.given.1 refl
+returns-in-At c = told next_told next_given c.in-At.is refl
 
 pub returns-in-Never : goal.returns-in-Never
-returns-in-Never c = told next_told next_given c.enum_told-1.given.1 refl
+returns-in-Never c = told next_told next_given c.in-Never.is refl
 
 pub returns-in-Refused : goal.returns-in-Refused
-returns-in-Refused c = told next_told next_given c.a-in-Refused-1.given.1 refl
+returns-in-Refused c = told next_told next_given c.in-Refused.is refl

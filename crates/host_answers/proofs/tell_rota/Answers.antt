@@ -5,7 +5,7 @@ use Rattle.host_answers.proofs.ToldLaws.{told}
 use Rattle.host_answers.proofs.tell_rota.Goals as goal
 
 pub returns-in-Accepted : goal.returns-in-Accepted
-returns-in-Accepted c = told rota_told rota_given c.a-1.given.1 refl
+returns-in-Accepted c = told rota_told rota_given c.in-Accepted.is refl
 
 pub returns-in-Refused : goal.returns-in-Refused
-returns-in-Refused c = told rota_told rota_given c.a-in-Refused-1.given.1 refl
+returns-in-Refused c = told rota_told rota_given c.in-Refused.is refl

@@ -5,7 +5,7 @@ use Rattle.host_answers.proofs.ToldLaws.{told}
 use Rattle.host_answers.proofs.tell_tidied.Goals as goal
 
 pub returns-in-Wrote : goal.returns-in-Wrote
-returns-in-Wrote c = told tidied_told tidied_given c.a-1.given.1 refl
+returns-in-Wrote c = told tidied_told tidied_given c.in-Wrote.is refl
 
 pub returns-in-Refused : goal.returns-in-Refused
-returns-in-Refused c = told tidied_told tidied_given c.a-in-Refused-1.given.1 refl
+returns-in-Refused c = told tidied_told tidied_given c.in-Refused.is refl

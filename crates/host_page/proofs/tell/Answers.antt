@@ -9,10 +9,10 @@ told-by : {a b : Answer} → a ≡ b → place_told (answer_given b) ≡ place_t
 told-by e = sym (ap (λ (x : Answer). place_told (answer_given x)) e)
 
 pub returns-in-Yes : goal.returns-in-Yes
-returns-in-Yes c = told-by c.a-1.given.1
+returns-in-Yes c = told-by c.in-Yes.is
 
 pub returns-in-No : goal.returns-in-No
-returns-in-No c = told-by c.enum_told-1.given.1
+returns-in-No c = told-by c.in-No.is
 
 pub returns-in-Refused : goal.returns-in-Refused
-returns-in-Refused c = told-by c.a-in-Refused-1.given.1
+returns-in-Refused c = told-by c.in-Refused.is

@@ -4,8 +4,8 @@ use Rattle.hours.proofs.dangles.Goals as goal
 
 pub returns-in-Always : goal.returns-in-Always
 unfolding dangling
-returns-in-Always c = sym (ap (dangling c.args.h) c.enum_told-1.given.1)
+returns-in-Always c = sym (ap (dangling c.args.h) c.in-Always.is)
 
 pub returns-in-Numbered : goal.returns-in-Numbered
 unfolding dangling
-returns-in-Numbered c = sym (ap (dangling c.args.h) c.r-1.given.1)
+returns-in-Numbered c = sym (ap (dangling c.args.h) c.in-Numbered.is)

@@ -11,13 +11,13 @@ returns-then-s-gt8192 c =
 
 pub put_table-requires : goal.put_table-requires
 put_table-requires c =
-    table_fits c.args.s.now _ _ _ refl (ap written_given (sym c.enum_told-1.given.1) ∙ c.rewrite.ensures.0) c.rewrite.ensures.1 _ (omega arith)
+    table_fits c.args.s.now _ _ _ refl (ap written_given (sym c.in-Wrote.is) ∙ c.rewrite.ensures.0) c.rewrite.ensures.1 _ (omega arith)
 
 pub returns-in-Refused : goal.returns-in-Refused
 returns-in-Refused c =
     let s = c.args.s.now in
-    refused-text s _ _ c.if-s-gt8192.false refl (ap written_given (sym c.n-1.given.1) ∙ c.rewrite.ensures.0) c.refused_line-in-Refused.ensures.0 (omega arith)
+    refused-text s _ _ c.if-s-gt8192.false refl (ap written_given (sym c.in-Refused.is) ∙ c.rewrite.ensures.0) c.refused_line-in-Refused.ensures.0 (omega arith)
 
 pub returns-in-Wrote : goal.returns-in-Wrote
 returns-in-Wrote c =
-    table-text c.args.s.now _ _ _ refl (ap written_given (sym c.enum_told-1.given.1) ∙ c.rewrite.ensures.0) c.rewrite.ensures.1 c.if-s-gt8192.false c.put_table.ensures.0 (omega arith)
+    table-text c.args.s.now _ _ _ refl (ap written_given (sym c.in-Wrote.is) ∙ c.rewrite.ensures.0) c.rewrite.ensures.1 c.if-s-gt8192.false c.put_table.ensures.0 (omega arith)

@@ -6,12 +6,12 @@ use Rattle.machine.proofs.answered.Goals as goal
 
 pub returns-in-Yes : goal.returns-in-Yes
 unfolding answered_step
-returns-in-Yes c = ap (λ (a : Answer). answered_step (answer_given a) c.args.service) (sym c.answer-1.given.1)
+returns-in-Yes c = ap (λ (a : Answer). answered_step (answer_given a) c.args.service) (sym c.in-Yes.is)
 
 pub returns-in-No : goal.returns-in-No
 unfolding answered_step
-returns-in-No c = ap (λ (a : Answer). answered_step (answer_given a) c.args.service) (sym c.enum_told-1.given.1)
+returns-in-No c = ap (λ (a : Answer). answered_step (answer_given a) c.args.service) (sym c.in-No.is)
 
 pub returns-in-Refused : goal.returns-in-Refused
 unfolding answered_step
-returns-in-Refused c = ap (λ (a : Answer). answered_step (answer_given a) c.args.service) (sym c.answer-in-Refused-1.given.1)
+returns-in-Refused c = ap (λ (a : Answer). answered_step (answer_given a) c.args.service) (sym c.in-Refused.is)

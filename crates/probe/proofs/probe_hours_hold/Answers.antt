@@ -5,4 +5,4 @@ use mathlib.Core.Path.{sym, ap, ◌∙◌}
 use Rattle.probe.proofs.probe_hours_hold.Goals as goal
 
 pub record_holds-requires : goal.record_holds-requires
-record_holds-requires c = let f = accepted-here _ _ _ _ _ (sym (ap hours_given c.enum_told-1.given.1) ∙ c.judge.ensures) in (omega (arith, f.0.within), f.1)
+record_holds-requires c = let f = accepted-here _ _ _ _ _ (sym (ap hours_given c.in-Accepted.is) ∙ c.judge.ensures) in (omega (arith, f.0.within), f.1)

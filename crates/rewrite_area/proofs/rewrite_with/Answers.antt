@@ -10,14 +10,14 @@ pub number-n-requires : goal.number-n-requires
 number-n-requires c =
     let p = c.requires in
     let t = c.trees-all.ensures in
-    ((p.0.0, p.0.3, p.1.for-held, p.1.for-row), number-room p.1 t.0 t.1 (omega (arith, p.0.3.few-eras)))
+    record { located = (p.located.0, p.located.3, p.scratch.for-held, p.scratch.for-row); room = number-room p.scratch t.0 t.1 (omega (arith, p.located.3.few-eras)) }
 
 pub place_table-k-requires : goal.place_table-k-requires
 place_table-k-requires c =
     let p = c.requires in
     let t = c.trees-w.ensures in
     let q = c.number-n in
-    (p.0, (q.ensures, derive-room p.1 q.ensures.few t.0 t.1 q.auto.1.1.1.1.1.1.1.1.1.1.1.0 q.auto.1.1.1.1.1.1.1.1.1.1.1.1.0))
+    record { located = p.located; numbered = (q.ensures, derive-room p.scratch q.ensures.few t.0 t.1 q.auto.1.1.1.1.1.1.1.1.1.1.1.0 q.auto.1.1.1.1.1.1.1.1.1.1.1.1.0) }
 
 pub answer-requires : goal.answer-requires
 answer-requires c = let q = c.place_table-k.ensures.0 in (q.few, q.few-rows)

@@ -5,7 +5,7 @@ pub derive_role-requires : goal.derive_role-requires
 derive_role-requires c =
     let a = c.args in
     let p = c.requires in
-    (p.0.0, p.0.1, rw (part-is a.at a.pairs.now, part-is a.from a.marks.now) p.1.0, p.1.1)
+    (p.located.0, p.located.1, rw (part-is a.at a.pairs.now, part-is a.from a.marks.now) p.room.0, p.room.1)
 
 pub returns : goal.returns
 returns c =
@@ -14,7 +14,7 @@ returns c =
     let k = c.derive_role in
     let x = k.new.1.1.1.1.1.1.0 in
     let y = k.new.1.1.1.1.1.1.1.0 in (
-      rw (back-drop a.at a.pairs.now x p.0.2, back-drop a.from a.marks.now y p.0.3) k.ensures,
-      back-take a.at a.pairs.now x p.0.2,
-      back-take a.from a.marks.now y p.0.3,
+      rw (back-drop a.at a.pairs.now x p.located.2, back-drop a.from a.marks.now y p.located.3) k.ensures,
+      back-take a.at a.pairs.now x p.located.2,
+      back-take a.from a.marks.now y p.located.3,
     )

@@ -5,8 +5,8 @@ use Rattle.rewrite_index.proofs.LinkLaws.{index-add}
 use Rattle.rewrite_index.proofs.add.Goals as goal
 
 pub link-requires : goal.link-requires
-link-requires c = let p = c.requires in (p.0.1, p.0.2, p.0.4, p.1.4.within)
+link-requires c = let p = c.requires in (p.d_in_bounds.1, p.d_in_bounds.2, p.d_in_bounds.4, p.indexed.4.within)
 
 pub returns : goal.returns
 unfolding with_pair
-returns c = let a = c.args in let p = c.requires in (refl, index-add a.w p.0.3 a.d a.pairs.now a.u a.p p.0.0 p.1.0 p.0.1 p.1.1 p.1.2 p.1.3 p.1.4 _ c.link.ensures)
+returns c = let a = c.args in let p = c.requires in (refl, index-add a.w p.d_in_bounds.3 a.d a.pairs.now a.u a.p p.d_in_bounds.0 p.indexed.0 p.d_in_bounds.1 p.indexed.1 p.indexed.2 p.indexed.3 p.indexed.4 _ c.link.ensures)

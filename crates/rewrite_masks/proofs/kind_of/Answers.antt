@@ -4,10 +4,10 @@ use Rattle.rewrite_masks.proofs.KeyLaws.{found_none, found-entered, held_same, a
 use Rattle.rewrite_masks.proofs.kind_of.Goals as goal
 
 pub returns-then-m-eq0 : goal.returns-then-m-eq0
-returns-then-m-eq0 c = let a = c.args in (found_none a.m a.d a.sets.now c.if-m-eq0.true, c.requires.1.0)
+returns-then-m-eq0 c = let a = c.args in (found_none a.m a.d a.sets.now c.if-m-eq0.true, c.requires.held.0)
 
 pub enter_key-k-requires : goal.enter_key-k-requires
-enter_key-k-requires c = let p = c.requires in (p.0, p.1.0)
+enter_key-k-requires c = let p = c.requires in record { d_in_bounds = p.d_in_bounds; indexed = p.held.0 }
 
 pub returns-then-k-d : goal.returns-then-k-d
 returns-then-k-d c =
@@ -15,7 +15,7 @@ returns-then-k-d c =
     let p = c.requires in
     let x = c.enter_key-k in
     let e = after-old a.d x.result c.if-k-d.true in
-    (found-entered a.m a.d a.sets.now p.1.0 (omega (arith, p.0)) c.if-m-eq0.false p.1.1 x.result _ x.ensures.0 a.d e, held_same e x.ensures.1)
+    (found-entered a.m a.d a.sets.now p.held.0 (omega (arith, p.d_in_bounds)) c.if-m-eq0.false p.held.1 x.result _ x.ensures.0 a.d e, held_same e x.ensures.1)
 
 pub returns : goal.returns
 returns c =
@@ -23,4 +23,4 @@ returns c =
     let p = c.requires in
     let x = c.enter_key-k in
     let e = after-new a.d x.result x.ensures.0.most c.if-k-d.false in
-    (found-entered a.m a.d a.sets.now p.1.0 (omega (arith, p.0)) c.if-m-eq0.false p.1.1 x.result _ x.ensures.0 (a.d + 1) e, held_same e x.ensures.1)
+    (found-entered a.m a.d a.sets.now p.held.0 (omega (arith, p.d_in_bounds)) c.if-m-eq0.false p.held.1 x.result _ x.ensures.0 (a.d + 1) e, held_same e x.ensures.1)

@@ -5,19 +5,19 @@ use Rattle.rota.proofs.LocatedLaws.{counted, hours-at}
 use Rattle.rewrite_masks.proofs.number.Goals as goal
 
 pub cell_masks-requires : goal.cell_masks-requires
-cell_masks-requires c = let p = c.requires.0 in (p.0.accepted, hours-at _ _ p.0, (counted _ _ p.0).hours, omega (arith, p.1.cell_cuts.long), p.2, p.1.cell_cuts.rise)
+cell_masks-requires c = let p = c.requires.located in (p.0.accepted, hours-at _ _ p.0, (counted _ _ p.0).hours, omega (arith, p.1.cell_cuts.long), p.2, p.1.cell_cuts.rise)
 
 pub clear-requires : goal.clear-requires
-clear-requires c = omega (arith, c.requires.1.for-links)
+clear-requires c = omega (arith, c.requires.room.for-links)
 
 pub number_all-requires : goal.number_all-requires
 number_all-requires c =
     let p = c.requires in
-    let w = p.0.0 in
-    let d = p.0.1 in
+    let w = p.located.0 in
+    let d = p.located.1 in
     let m = c.cell_masks in
-    let r = p.1 in (
-      (
+    let r = p.room in record {
+      ready = (
         record {
           accepted = w.accepted;
           cycle-is = (counted _ _ w).cycle;
@@ -26,11 +26,11 @@ number_all-requires c =
           era-cuts = d.era-cuts;
           cell_cuts = d.cell_cuts;
           in_cells = m.ensures;
-          pairs-long = omega (arith, p.0.2, m.auto.1.1.1.1.1.0);
+          pairs-long = omega (arith, p.located.2, m.auto.1.1.1.1.1.0);
         },
-        p.0.3,
-      ),
-      (
+        p.located.3,
+      );
+      room = (
         record {
           few = r.few;
           for-kinds = r.for-kinds;
@@ -42,8 +42,8 @@ number_all-requires c =
           most = r.most;
         },
         c.clear.ensures (key_pairs c.args.sets.now) 4294967295 0,
-      ),
-    )
+      );
+    }
 
 pub shape_of-held : goal.shape_of-held
 shape_of-held c = c.cell_masks.auto.1.1.1.1.1.0

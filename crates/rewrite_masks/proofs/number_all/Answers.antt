@@ -8,37 +8,37 @@ use Rattle.rewrite_masks.proofs.EraLaws.{passed_none, row_room, end-room, passed
 use Rattle.rewrite_masks.proofs.number_all.Goals as goal
 
 pub bounds-ends-0 : goal.bounds-ends-0
-bounds-ends-0 c = omega (arith, c.requires.1.0.for-ends)
+bounds-ends-0 c = omega (arith, c.requires.room.0.for-ends)
 
 pub loop-i-init : goal.loop-i-init
 loop-i-init c =
     let a = c.args in
-    let p = c.requires.1 in (
+    let p = c.requires.room in (
       passed_none _ _ _ _ _ _ _ a.ends.now _ _ (omega (arith, p.0.for-ends)) p.1,
       record { of_row = refl; of-kinds = refl; of-lens = refl; of-ends = refl; of-sets = refl; of-links = refl },
     )
 
 pub offset_bounds-eras-i : goal.offset_bounds-eras-i
-offset_bounds-eras-i c = omega (arith, c.requires.0.0.era-cuts.long)
+offset_bounds-eras-i c = omega (arith, c.requires.ready.0.era-cuts.long)
 
 pub bounds-eras-i : goal.bounds-eras-i
-bounds-eras-i c = omega (arith, c.requires.0.0.era-cuts.long)
+bounds-eras-i c = omega (arith, c.requires.ready.0.era-cuts.long)
 
 pub overflow_add-e : goal.overflow_add-e
-overflow_add-e c = omega (arith, c.requires.0.0.era-cuts.long)
+overflow_add-e c = omega (arith, c.requires.ready.0.era-cuts.long)
 
 pub offset_bounds-eras-i-in-loop-i : goal.offset_bounds-eras-i-in-loop-i
-offset_bounds-eras-i-in-loop-i c = omega (arith, c.requires.0.0.era-cuts.long)
+offset_bounds-eras-i-in-loop-i c = omega (arith, c.requires.ready.0.era-cuts.long)
 
 pub bounds-eras-i-in-loop-i : goal.bounds-eras-i-in-loop-i
-bounds-eras-i-in-loop-i c = omega (arith, c.requires.0.0.era-cuts.long)
+bounds-eras-i-in-loop-i c = omega (arith, c.requires.ready.0.era-cuts.long)
 
 pub era_mask-dates-requires : goal.era_mask-dates-requires
-era_mask-dates-requires c = let p = c.requires.0.0 in (p.accepted, p.from_is, p.hours-are)
+era_mask-dates-requires c = let p = c.requires.ready.0 in (p.accepted, p.from_is, p.hours-are)
 
 pub era_masks-requires : goal.era_masks-requires
 era_masks-requires c =
-    let p = c.requires.0 in
+    let p = c.requires.ready in
     let l = c.loop-i in
     let f = (rota-fine _ p.0.accepted).header in (
       omega (arith, f.cycle-some, p.0.cycle-is),
@@ -56,16 +56,16 @@ number_row-r-requires c =
     let p = c.requires in
     let l = c.loop-i in
     let g = l.invariant.1 in
-    (row_room l.invariant.0 a.row.now a.kinds.now a.lens.now a.ends.now a.sets.now a.links.now _ c.loop-i-test.true p.0.1 p.1.0 (record { of_row = c.era_masks.auto.1.1.1.1.1.1.1.0 ∙ g.of_row; of-kinds = g.of-kinds; of-lens = g.of-lens; of-ends = g.of-ends; of-sets = g.of-sets; of-links = g.of-links }), (l.invariant.0.held, row_told p.0.0 _ _ _ c.era_mask-dates.ensures c.era_masks.ensures))
+    record { row_room = row_room l.invariant.0 a.row.now a.kinds.now a.lens.now a.ends.now a.sets.now a.links.now _ c.loop-i-test.true p.ready.1 p.room.0 (record { of_row = c.era_masks.auto.1.1.1.1.1.1.1.0 ∙ g.of_row; of-kinds = g.of-kinds; of-lens = g.of-lens; of-ends = g.of-ends; of-sets = g.of-sets; of-links = g.of-links }); held = (l.invariant.0.held, row_told p.ready.0 _ _ _ c.era_mask-dates.ensures c.era_masks.ensures) }
 
 pub overflow_add-i : goal.overflow_add-i
 overflow_add-i c = omega (arith, c.loop-i-test.true, c.ranges.ne.fits)
 
 pub offset_bounds-ends-i : goal.offset_bounds-ends-i
-offset_bounds-ends-i c = omega (arith, c.well-formed.1.1.1.1.1.1.1.1.1.1.1.1.0.1, c.loop-i-test.true, c.loop-i.invariant.1.of-ends, length-set c.args.ends.now 0 0, c.requires.1.0.for-ends)
+offset_bounds-ends-i c = omega (arith, c.well-formed.1.1.1.1.1.1.1.1.1.1.1.1.0.1, c.loop-i-test.true, c.loop-i.invariant.1.of-ends, length-set c.args.ends.now 0 0, c.requires.room.0.for-ends)
 
 pub bounds-ends-i : goal.bounds-ends-i
-bounds-ends-i c = omega (arith, c.loop-i-test.true, c.loop-i.invariant.1.of-ends, length-set c.args.ends.now 0 0, c.requires.1.0.for-ends)
+bounds-ends-i c = omega (arith, c.loop-i-test.true, c.loop-i.invariant.1.of-ends, length-set c.args.ends.now 0 0, c.requires.room.0.for-ends)
 
 pub loop-i-smaller : goal.loop-i-smaller
 loop-i-smaller c = omega (arith, c.loop-i-test.true)
@@ -73,13 +73,13 @@ loop-i-smaller c = omega (arith, c.loop-i-test.true)
 pub loop-i-preserved : goal.loop-i-preserved
 loop-i-preserved c =
     let p = c.requires in
-    let r = p.1.0 in
+    let r = p.room.0 in
     let l = c.loop-i in
     let g = l.invariant.1 in
     let t = c.loop-i-test.true in
     let n = c.number_row-r in
     let m = n.ensures.0.most in (
-      passed-more l.invariant.0 p.0.0 _ _ _ _ _ n.result.end n.result.masks t c.era_mask-dates.ensures c.era_masks.ensures n.ensures.0 n.ensures.1 n.ensures.2 n.ensures.3
+      passed-more l.invariant.0 p.ready.0 _ _ _ _ _ n.result.end n.result.masks t c.era_mask-dates.ensures c.era_masks.ensures n.ensures.0 n.ensures.1 n.ensures.2 n.ensures.3
           (end-room l.invariant.0 t m r.for-kinds g.of-kinds n.auto.1.1.0) (end-room l.invariant.0 t m r.for-lens g.of-lens n.auto.1.1.1.0)
           (omega (arith, g.of-ends, length-set c.args.ends.now 0 0, r.for-ends)),
       record {
@@ -111,4 +111,4 @@ pub shape_of-links : goal.shape_of-links
 shape_of-links c = c.loop-i.invariant.1.of-links
 
 pub returns : goal.returns
-returns c = passed-all c.loop-i.invariant.0 c.requires.0.0 c.loop-i-test.false
+returns c = passed-all c.loop-i.invariant.0 c.requires.ready.0 c.loop-i-test.false

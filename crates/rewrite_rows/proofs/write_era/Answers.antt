@@ -8,42 +8,42 @@ use Rattle.rewrite_rows.proofs.EraLaws.{era-begun, stretch-within, stretch-kept,
 use Rattle.rewrite_rows.proofs.write_era.Goals as goal
 
 pub bounds-cells-0 : goal.bounds-cells-0
-bounds-cells-0 c = omega (arith, c.requires.1.2.long)
+bounds-cells-0 c = omega (arith, c.requires.have_marks.2.long)
 
 pub loop-j-init : goal.loop-j-init
-loop-j-init c = let a = c.args in let p = c.requires in era-begun a.base a.begin a.end a.nc a.cells.now a.kinds.now a.lens.now a.marks.now a.first a.last p.1.1 p.1.2 a.at a.out.now
+loop-j-init c = let a = c.args in let p = c.requires in era-begun a.base a.begin a.end a.nc a.cells.now a.kinds.now a.lens.now a.marks.now a.first a.last p.have_marks.1 p.have_marks.2 a.at a.out.now
 
 pub mark_of-m-requires : goal.mark_of-m-requires
-mark_of-m-requires c = let hk = c.requires.1.0 in (omega (arith, hk.long, c.loop-j-test.true), hk.below _ c.loop-j-test.true)
+mark_of-m-requires c = let hk = c.requires.have_marks.0 in (omega (arith, hk.long, c.loop-j-test.true), hk.below _ c.loop-j-test.true)
 
 pub offset_bounds-cells-c : goal.offset_bounds-cells-c
 offset_bounds-cells-c c = omega arith
 
 pub bounds-cells-c : goal.bounds-cells-c
-bounds-cells-c c = omega (arith, c.loop-j.invariant.run.up_to, c.requires.1.2.long)
+bounds-cells-c c = omega (arith, c.loop-j.invariant.run.up_to, c.requires.have_marks.2.long)
 
 pub write_marked-p-requires : goal.write_marked-p-requires
 write_marked-p-requires c = let p = c.requires in let l = c.loop-j in (
-  stretch-room p.1.0 p.1.1 p.1.2 l.invariant c.loop-j-test.true (λ z. omega (arith, z, c.if-m-run.true, c.mark_of-m.ensures)) p.0.0,
-  p.0.1,
+  stretch-room p.have_marks.0 p.have_marks.1 p.have_marks.2 l.invariant c.loop-j-test.true (λ z. omega (arith, z, c.if-m-run.true, c.mark_of-m.ensures)) p.first_in_bounds.0,
+  p.first_in_bounds.1,
   l.invariant.run.from,
-  p.1.2.most l.c l.invariant.run.up_to,
+  p.have_marks.2.most l.c l.invariant.run.up_to,
 )
 
 pub offset_bounds-cells-c-then-m-run : goal.offset_bounds-cells-c-then-m-run
 offset_bounds-cells-c-then-m-run c = omega arith
 
 pub bounds-cells-c-then-m-run : goal.bounds-cells-c-then-m-run
-bounds-cells-c-then-m-run c = omega (arith, c.loop-j.invariant.run.up_to, c.requires.1.2.long)
+bounds-cells-c-then-m-run c = omega (arith, c.loop-j.invariant.run.up_to, c.requires.have_marks.2.long)
 
 pub bounds-lens-j : goal.bounds-lens-j
-bounds-lens-j c = omega (arith, c.loop-j-test.true, c.requires.1.1.long)
+bounds-lens-j c = omega (arith, c.loop-j-test.true, c.requires.have_marks.1.long)
 
 pub overflow_cast-c : goal.overflow_cast-c
 overflow_cast-c c = omega (arith, c.shared_slice_known-in-loop-j-1.given c.loop-j.j)
 
 pub overflow_add-c : goal.overflow_add-c
-overflow_add-c c = let p = c.requires in omega (arith, stretch-within p.1.0 p.1.1 p.1.2 c.loop-j.invariant c.loop-j-test.true, p.1.2.long)
+overflow_add-c c = let p = c.requires in omega (arith, stretch-within p.have_marks.0 p.have_marks.1 p.have_marks.2 c.loop-j.invariant c.loop-j-test.true, p.have_marks.2.long)
 
 pub overflow_add-j : goal.overflow_add-j
 overflow_add-j c = omega arith
@@ -54,22 +54,22 @@ loop-j-smaller c = omega arith
 pub loop-j-preserved : goal.loop-j-preserved
 loop-j-preserved c = let p = c.requires in let l = c.loop-j in let h = c.loop-j-test.true in let m = c.mark_of-m.ensures in
     ⊎_elim
-    (λ w. stretch-written p.1.0 p.1.1 p.1.2 l.invariant h (λ z. omega (arith, z, w.0.taken, m)) _ _ _ _ (w.7 ∙ w.3.ensures.0) (w.8 ∙ w.3.ensures.1) (w.9 ∙ m) w.10)
-    (λ w. stretch-kept p.1.0 p.1.1 p.1.2 l.invariant h (omega (arith, w.0.left, m)) _ _ _ _ w.1 w.2 w.3 w.4)
+    (λ w. stretch-written p.have_marks.0 p.have_marks.1 p.have_marks.2 l.invariant h (λ z. omega (arith, z, w.0.taken, m)) _ _ _ _ (w.7 ∙ w.3.ensures.0) (w.8 ∙ w.3.ensures.1) (w.9 ∙ m) w.10)
+    (λ w. stretch-kept p.have_marks.0 p.have_marks.1 p.have_marks.2 l.invariant h (omega (arith, w.0.left, m)) _ _ _ _ w.1 w.2 w.3 w.4)
     c.if-m-run.branch
 
 pub offset_bounds-cells-nc : goal.offset_bounds-cells-nc
 offset_bounds-cells-nc c = omega arith
 
 pub bounds-cells-nc : goal.bounds-cells-nc
-bounds-cells-nc c = omega (arith, c.requires.1.2.long)
+bounds-cells-nc c = omega (arith, c.requires.have_marks.2.long)
 
 pub write_marked-requires : goal.write_marked-requires
-write_marked-requires c = let a = c.args in let p = c.requires in let l = c.loop-j in let e = era-full p.1.0 p.1.1 p.1.2 l.invariant (omega (arith, l.invariant.up_to)) in (
-  last-room p.1.2 l.invariant.run e p.0.0,
-  p.0.1,
-  last-from p.1.2 l.invariant.run e,
-  p.1.2.most a.nc (omega arith),
+write_marked-requires c = let a = c.args in let p = c.requires in let l = c.loop-j in let e = era-full p.have_marks.0 p.have_marks.1 p.have_marks.2 l.invariant (omega (arith, l.invariant.up_to)) in (
+  last-room p.have_marks.2 l.invariant.run e p.first_in_bounds.0,
+  p.first_in_bounds.1,
+  last-from p.have_marks.2 l.invariant.run e,
+  p.have_marks.2.most a.nc (omega arith),
 )
 
 pub shape_of-out : goal.shape_of-out
@@ -77,4 +77,4 @@ shape_of-out c = c.write_marked.auto.0 ∙ c.loop-j.invariant.run.left.long
 
 pub returns : goal.returns
 returns c = let p = c.requires in let l = c.loop-j in
-    last_written p.1.2 l.invariant.run (era-full p.1.0 p.1.1 p.1.2 l.invariant (omega (arith, l.invariant.up_to))) _ _ c.write_marked.ensures.0 c.write_marked.ensures.1
+    last_written p.have_marks.2 l.invariant.run (era-full p.have_marks.0 p.have_marks.1 p.have_marks.2 l.invariant (omega (arith, l.invariant.up_to))) _ _ c.write_marked.ensures.0 c.write_marked.ensures.1

@@ -7,61 +7,61 @@ use Rattle.rewrite_trees.proofs.WalkLaws.{seek-start, hook-below, link-below, se
 use Rattle.rewrite_trees.proofs.find.Goals as goal
 
 pub loop-w-init : goal.loop-w-init
-loop-w-init c = let a = c.args in seek-start a.w a.n a.pairs.now a.links.now a.a a.b a.u a.p c.bucket-hook.result c.requires.0.3 c.bucket-hook.ensures.0
+loop-w-init c = let a = c.args in seek-start a.w a.n a.pairs.now a.links.now a.a a.b a.u a.p c.bucket-hook.result c.requires.n_in_bounds.3 c.bucket-hook.ensures.0
 
 pub offset_bounds-links-hook : goal.offset_bounds-links-hook
-offset_bounds-links-hook c = omega (arith, hook-below c.requires.1.0 c.loop-w.invariant, c.requires.0)
+offset_bounds-links-hook c = omega (arith, hook-below c.requires.indexed.0 c.loop-w.invariant, c.requires.n_in_bounds)
 
 pub bounds-links-hook : goal.bounds-links-hook
-bounds-links-hook c = omega (arith, hook-below c.requires.1.0 c.loop-w.invariant, c.requires.0)
+bounds-links-hook c = omega (arith, hook-below c.requires.indexed.0 c.loop-w.invariant, c.requires.n_in_bounds)
 
 pub overflow_cast-c : goal.overflow_cast-c
-overflow_cast-c c = omega (arith, link-below c.requires.1.0 c.loop-w.invariant, c.requires.0)
+overflow_cast-c c = omega (arith, link-below c.requires.indexed.0 c.loop-w.invariant, c.requires.n_in_bounds)
 
 pub returns-then-c-eq0 : goal.returns-then-c-eq0
-returns-then-c-eq0 c = record { most = omega arith; here = λ h. absurd (omega arith); absent = λ e. seek-end c.requires.1.0 c.loop-w.invariant c.if-c-eq0.true }
+returns-then-c-eq0 c = record { most = omega arith; here = λ h. absurd (omega arith); absent = λ e. seek-end c.requires.indexed.0 c.loop-w.invariant c.if-c-eq0.true }
 
 pub overflow_sub-k : goal.overflow_sub-k
 overflow_sub-k c = omega arith
 
 pub overflow_mul-k : goal.overflow_mul-k
-overflow_mul-k c = omega (arith, link-below c.requires.1.0 c.loop-w.invariant, c.requires.0)
+overflow_mul-k c = omega (arith, link-below c.requires.indexed.0 c.loop-w.invariant, c.requires.n_in_bounds)
 
 pub offset_bounds-pairs-k : goal.offset_bounds-pairs-k
-offset_bounds-pairs-k c = omega (arith, link-below c.requires.1.0 c.loop-w.invariant, c.requires.0)
+offset_bounds-pairs-k c = omega (arith, link-below c.requires.indexed.0 c.loop-w.invariant, c.requires.n_in_bounds)
 
 pub bounds-pairs-k : goal.bounds-pairs-k
-bounds-pairs-k c = omega (arith, link-below c.requires.1.0 c.loop-w.invariant, c.requires.0, c.if-c-eq0.false)
+bounds-pairs-k c = omega (arith, link-below c.requires.indexed.0 c.loop-w.invariant, c.requires.n_in_bounds, c.if-c-eq0.false)
 
 pub overflow_mul-k-then-pairs-k : goal.overflow_mul-k-then-pairs-k
-overflow_mul-k-then-pairs-k c = omega (arith, link-below c.requires.1.0 c.loop-w.invariant, c.requires.0)
+overflow_mul-k-then-pairs-k c = omega (arith, link-below c.requires.indexed.0 c.loop-w.invariant, c.requires.n_in_bounds)
 
 pub overflow_add-k : goal.overflow_add-k
-overflow_add-k c = omega (arith, link-below c.requires.1.0 c.loop-w.invariant, c.requires.0)
+overflow_add-k c = omega (arith, link-below c.requires.indexed.0 c.loop-w.invariant, c.requires.n_in_bounds)
 
 pub offset_bounds-pairs-k-then-pairs-k : goal.offset_bounds-pairs-k-then-pairs-k
-offset_bounds-pairs-k-then-pairs-k c = omega (arith, link-below c.requires.1.0 c.loop-w.invariant, c.requires.0)
+offset_bounds-pairs-k-then-pairs-k c = omega (arith, link-below c.requires.indexed.0 c.loop-w.invariant, c.requires.n_in_bounds)
 
 pub bounds-pairs-k-then-pairs-k : goal.bounds-pairs-k-then-pairs-k
-bounds-pairs-k-then-pairs-k c = omega (arith, link-below c.requires.1.0 c.loop-w.invariant, c.requires.0, c.if-c-eq0.false)
+bounds-pairs-k-then-pairs-k c = omega (arith, link-below c.requires.indexed.0 c.loop-w.invariant, c.requires.n_in_bounds, c.if-c-eq0.false)
 
 pub returns-then-pairs-k-2 : goal.returns-then-pairs-k-2
-returns-then-pairs-k-2 c = record { most = omega (arith, link-below c.requires.1.0 c.loop-w.invariant); here = λ h. (c.if-pairs-k.true, c.if-pairs-k-2.true); absent = λ e. absurd (omega (arith, link-below c.requires.1.0 c.loop-w.invariant, c.if-c-eq0.false)) }
+returns-then-pairs-k-2 c = record { most = omega (arith, link-below c.requires.indexed.0 c.loop-w.invariant); here = λ h. (c.if-pairs-k.true, c.if-pairs-k-2.true); absent = λ e. absurd (omega (arith, link-below c.requires.indexed.0 c.loop-w.invariant, c.if-c-eq0.false)) }
 
 pub next_turn-t-requires : goal.next_turn-t-requires
-next_turn-t-requires c = some_left c.requires.1.0 c.loop-w.invariant (get_or c.args.links.now c.loop-w.hook 0 - 1) (omega (arith, c.if-c-eq0.false)) (⊎_elim (λ w. λ eu ep. w.2.left ep) (λ w. λ eu ep. w.left eu) c.if-pairs-k.branch) c.requires.1.1 c.requires.1.2
+next_turn-t-requires c = some_left c.requires.indexed.0 c.loop-w.invariant (get_or c.args.links.now c.loop-w.hook 0 - 1) (omega (arith, c.if-c-eq0.false)) (⊎_elim (λ w. λ eu ep. w.2.left ep) (λ w. λ eu ep. w.left eu) c.if-pairs-k.branch) c.requires.indexed.1 c.requires.indexed.2
 
 pub overflow_mul-hook : goal.overflow_mul-hook
-overflow_mul-hook c = omega (arith, link-below c.requires.1.0 c.loop-w.invariant, c.requires.0)
+overflow_mul-hook c = omega (arith, link-below c.requires.indexed.0 c.loop-w.invariant, c.requires.n_in_bounds)
 
 pub overflow_add-hook : goal.overflow_add-hook
-overflow_add-hook c = omega (arith, link-below c.requires.1.0 c.loop-w.invariant, c.requires.0)
+overflow_add-hook c = omega (arith, link-below c.requires.indexed.0 c.loop-w.invariant, c.requires.n_in_bounds)
 
 pub overflow_add-hook-in-loop-w : goal.overflow_add-hook-in-loop-w
-overflow_add-hook-in-loop-w c = omega (arith, link-below c.requires.1.0 c.loop-w.invariant, c.requires.0, side-small c.requires.1.0 c.loop-w.invariant (get_or c.args.links.now c.loop-w.hook 0 - 1) (omega (arith, c.if-c-eq0.false)) (⊎_elim (λ w. λ eu ep. w.2.left ep) (λ w. λ eu ep. w.left eu) c.if-pairs-k.branch) c.next_turn-t.ensures)
+overflow_add-hook-in-loop-w c = omega (arith, link-below c.requires.indexed.0 c.loop-w.invariant, c.requires.n_in_bounds, side-small c.requires.indexed.0 c.loop-w.invariant (get_or c.args.links.now c.loop-w.hook 0 - 1) (omega (arith, c.if-c-eq0.false)) (⊎_elim (λ w. λ eu ep. w.2.left ep) (λ w. λ eu ep. w.left eu) c.if-pairs-k.branch) c.next_turn-t.ensures)
 
 pub loop-w-smaller : goal.loop-w-smaller
-loop-w-smaller c = omega (arith, left-falls c.requires.1.0 c.loop-w.invariant (get_or c.args.links.now c.loop-w.hook 0 - 1) (omega (arith, c.if-c-eq0.false)) (⊎_elim (λ w. λ eu ep. w.2.left ep) (λ w. λ eu ep. w.left eu) c.if-pairs-k.branch) c.next_turn-t.ensures)
+loop-w-smaller c = omega (arith, left-falls c.requires.indexed.0 c.loop-w.invariant (get_or c.args.links.now c.loop-w.hook 0 - 1) (omega (arith, c.if-c-eq0.false)) (⊎_elim (λ w. λ eu ep. w.2.left ep) (λ w. λ eu ep. w.left eu) c.if-pairs-k.branch) c.next_turn-t.ensures)
 
 pub loop-w-preserved : goal.loop-w-preserved
-loop-w-preserved c = seek-on c.requires.1.0 c.loop-w.invariant (get_or c.args.links.now c.loop-w.hook 0 - 1) (omega (arith, c.if-c-eq0.false)) (⊎_elim (λ w. λ eu ep. w.2.left ep) (λ w. λ eu ep. w.left eu) c.if-pairs-k.branch) c.next_turn-t.ensures
+loop-w-preserved c = seek-on c.requires.indexed.0 c.loop-w.invariant (get_or c.args.links.now c.loop-w.hook 0 - 1) (omega (arith, c.if-c-eq0.false)) (⊎_elim (λ w. λ eu ep. w.2.left ep) (λ w. λ eu ep. w.left eu) c.if-pairs-k.branch) c.next_turn-t.ensures

@@ -4,7 +4,7 @@ use mathlib.Core.Path.{sym, ap, ◌∙◌}
 use Rattle.rota.proofs.read.Goals as goal
 
 pub returns-in-Refused : goal.returns-in-Refused
-returns-in-Refused c = read-refused _ _ (sym (ap layout_given c.n-1.given.1) ∙ c.locate.ensures)
+returns-in-Refused c = read-refused _ _ (sym (ap layout_given c.in-Refused.is) ∙ c.locate.ensures)
 
 pub returns-in-Accepted : goal.returns-in-Accepted
-returns-in-Accepted c = read-given _ _ (sym (ap layout_given c.l-1.given.1) ∙ c.locate.ensures)
+returns-in-Accepted c = read-given _ _ (sym (ap layout_given c.in-Accepted.is) ∙ c.locate.ensures)

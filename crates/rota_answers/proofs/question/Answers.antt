@@ -8,7 +8,7 @@ use Rattle.rota.proofs.ReadLaws.{not-located}
 use Rattle.rota_answers.proofs.question.Goals as goal
 
 pub question_in-requires : goal.question_in-requires
-question_in-requires c = located-by _ _ (sym (ap layout_given c.l-1.given.1) ∙ c.locate.ensures)
+question_in-requires c = located-by _ _ (sym (ap layout_given c.in-Accepted.is) ∙ c.locate.ensures)
 
 pub returns-in-Refused : goal.returns-in-Refused
-returns-in-Refused c = let n = not-located _ _ (sym (ap layout_given c.n-1.given.1) ∙ c.locate.ensures) in bytes-refused _ (policy_of (rota_of c.args.s.now)) _ _ _ _ n.0 n.1
+returns-in-Refused c = let n = not-located _ _ (sym (ap layout_given c.in-Refused.is) ∙ c.locate.ensures) in bytes-refused _ (policy_of (rota_of c.args.s.now)) _ _ _ _ n.0 n.1

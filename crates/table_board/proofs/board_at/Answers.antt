@@ -9,19 +9,19 @@ use Rattle.table_board.proofs.board_at.Goals as goal
 pub returns-then-t-ge-END : goal.returns-then-t-ge-END
 unfolding E
 returns-then-t-ge-END c =
-    let o = opened _ _ (sym (ap table_given c.n-1.given.1) ∙ c.read.ensures) in
+    let o = opened _ _ (sym (ap table_given c.in-Accepted.is) ∙ c.read.ensures) in
     c.refused-then-t-ge-END.ensures ∙ told-late _ _ o.clear (omega (arith, c.if-t-ge-END.true))
 
 pub board_in-requires : goal.board_in-requires
-board_in-requires c = opened _ _ (sym (ap table_given c.n-1.given.1) ∙ c.read.ensures)
+board_in-requires c = opened _ _ (sym (ap table_given c.in-Accepted.is) ∙ c.read.ensures)
 
 pub returns-in-Refused : goal.returns-in-Refused
 returns-in-Refused c =
-    let k = closed _ _ (sym (ap table_given c.code-1.given.1) ∙ c.read.ensures) in
+    let k = closed _ _ (sym (ap table_given c.in-Refused.is) ∙ c.read.ensures) in
     c.refused.ensures ∙ told-refused _ _ _ k.0 k.1
 
 pub returns-else-t-ge-END : goal.returns-else-t-ge-END
 unfolding E
 returns-else-t-ge-END c =
-    let o = opened _ _ (sym (ap table_given c.n-1.given.1) ∙ c.read.ensures) in
+    let o = opened _ _ (sym (ap table_given c.in-Accepted.is) ∙ c.read.ensures) in
     c.board_in.ensures ∙ told-board _ _ o.clear (omega (arith, c.if-t-ge-END.false))

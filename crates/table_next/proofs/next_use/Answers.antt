@@ -13,13 +13,13 @@ use Rattle.table_next.proofs.next_use.Goals as goal
 pub returns-then-bad-ne0 : goal.returns-then-bad-ne0
 returns-then-bad-ne0 c =
     let s = c.args.s.now in
-    let o = opened s _ (sym (ap table_given c.n-1.given.1) ∙ c.read.ensures) in
+    let o = opened s _ (sym (ap table_given c.in-Accepted.is) ∙ c.read.ensures) in
     numbers-refused _ (policy_of (table_of s)) _ _ _ _ o.clear (arguments-as s _ o _ _ _ c.judge_arguments-bad.ensures) c.if-bad-ne0.true
 
 pub first_use-t-requires : goal.first_use-t-requires
 first_use-t-requires c =
     let s = c.args.s.now in
-    let o = opened s _ (sym (ap table_given c.n-1.given.1) ∙ c.read.ensures) in
+    let o = opened s _ (sym (ap table_given c.in-Accepted.is) ∙ c.read.ensures) in
     let i = numbers-below _ _ _ _ _ _ c.judge_arguments-bad.ensures c.if-bad-ne0.false in
     let h = minute-early 0 (policy_of (table_of s)) _ _ _ _ (arguments-as s _ o _ _ _ c.judge_arguments-bad.ensures) c.if-bad-ne0.false in
     (o, i.0, i.1, omega arith)
@@ -27,14 +27,14 @@ first_use-t-requires c =
 pub returns-in-Refused : goal.returns-in-Refused
 returns-in-Refused c =
     let s = c.args.s.now in
-    let k = closed s _ (sym (ap table_given c.code-1.given.1) ∙ c.read.ensures) in
+    let k = closed s _ (sym (ap table_given c.in-Refused.is) ∙ c.read.ensures) in
     bytes-refused _ (policy_of (table_of s)) _ _ _ _ k.0 k.1
 
 pub returns-then-t-lt-END : goal.returns-then-t-lt-END
 unfolding E
 returns-then-t-lt-END c =
     let s = c.args.s.now in
-    let o = opened s _ (sym (ap table_given c.n-1.given.1) ∙ c.read.ensures) in
+    let o = opened s _ (sym (ap table_given c.in-Accepted.is) ∙ c.read.ensures) in
     next-some s _ o _ _ _ _ c.first_use-t.ensures c.if-t-lt-END.true
     ∙ next-given _ (policy_of (table_of s)) _ _ _ _ o.clear (arguments-as s _ o _ _ _ c.judge_arguments-bad.ensures) c.if-bad-ne0.false
 
@@ -42,6 +42,6 @@ pub returns-else-t-lt-END : goal.returns-else-t-lt-END
 unfolding E
 returns-else-t-lt-END c =
     let s = c.args.s.now in
-    let o = opened s _ (sym (ap table_given c.n-1.given.1) ∙ c.read.ensures) in
+    let o = opened s _ (sym (ap table_given c.in-Accepted.is) ∙ c.read.ensures) in
     next-never s _ o _ _ _ _ c.first_use-t.ensures c.if-t-lt-END.false
     ∙ next-given _ (policy_of (table_of s)) _ _ _ _ o.clear (arguments-as s _ o _ _ _ c.judge_arguments-bad.ensures) c.if-bad-ne0.false

@@ -9,24 +9,24 @@ use Rattle.table_questions.proofs.question.Goals as goal
 pub returns-then-bad-ne0 : goal.returns-then-bad-ne0
 returns-then-bad-ne0 c =
     let s = c.args.s.now in
-    let o = opened s _ (sym (ap table_given c.n-1.given.1) ∙ c.read.ensures) in
+    let o = opened s _ (sym (ap table_given c.in-Accepted.is) ∙ c.read.ensures) in
     numbers-refused _ (policy_of (table_of s)) _ _ _ _ o.clear (arguments-as s _ o _ _ _ c.judge_arguments-bad.ensures) c.if-bad-ne0.true
 
 pub answer_in-requires : goal.answer_in-requires
 answer_in-requires c =
-    let o = opened _ _ (sym (ap table_given c.n-1.given.1) ∙ c.read.ensures) in
+    let o = opened _ _ (sym (ap table_given c.in-Accepted.is) ∙ c.read.ensures) in
     let i = numbers-below _ _ _ _ _ _ c.judge_arguments-bad.ensures c.if-bad-ne0.false in
     (o, i.0, i.1)
 
 pub returns-in-Refused : goal.returns-in-Refused
 returns-in-Refused c =
     let s = c.args.s.now in
-    let k = closed s _ (sym (ap table_given c.code-1.given.1) ∙ c.read.ensures) in
+    let k = closed s _ (sym (ap table_given c.in-Refused.is) ∙ c.read.ensures) in
     bytes-refused _ (policy_of (table_of s)) _ _ _ _ k.0 k.1
 
 pub returns-else-bad-ne0 : goal.returns-else-bad-ne0
 returns-else-bad-ne0 c =
     let s = c.args.s.now in
-    let o = opened s _ (sym (ap table_given c.n-1.given.1) ∙ c.read.ensures) in
+    let o = opened s _ (sym (ap table_given c.in-Accepted.is) ∙ c.read.ensures) in
     c.answer_in.ensures
     ∙ question-given _ (policy_of (table_of s)) _ _ _ _ o.clear (arguments-as s _ o _ _ _ c.judge_arguments-bad.ensures) c.if-bad-ne0.false

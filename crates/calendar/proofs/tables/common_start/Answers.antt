@@ -9,55 +9,55 @@ use Rattle.calendar.proofs.tables.common_start.Goals as goal
 
 pub returns-in-0 : goal.returns-in-0
 unfolding leap month_length month_start
-returns-in-0 c = rw c.in-0.keys1 refl
+returns-in-0 c = rw c.in-0.is refl
 
 pub returns-in-1 : goal.returns-in-1
 unfolding leap month_length month_start
-returns-in-1 c = rw c.in-0.keys2 refl
+returns-in-1 c = rw c.in-1.is refl
 
 pub returns-in-2 : goal.returns-in-2
 unfolding leap month_length month_start
-returns-in-2 c = rw c.in-0.keys3 refl
+returns-in-2 c = rw c.in-2.is refl
 
 pub returns-in-3 : goal.returns-in-3
 unfolding leap month_length month_start
-returns-in-3 c = rw c.in-0.keys4 refl
+returns-in-3 c = rw c.in-3.is refl
 
 pub returns-in-4 : goal.returns-in-4
 unfolding leap month_length month_start
-returns-in-4 c = rw c.in-0.keys5 refl
+returns-in-4 c = rw c.in-4.is refl
 
 pub returns-in-5 : goal.returns-in-5
 unfolding leap month_length month_start
-returns-in-5 c = rw c.in-0.keys6 refl
+returns-in-5 c = rw c.in-5.is refl
 
 pub returns-in-6 : goal.returns-in-6
 unfolding leap month_length month_start
-returns-in-6 c = rw c.in-0.keys7 refl
+returns-in-6 c = rw c.in-6.is refl
 
 pub returns-in-7 : goal.returns-in-7
 unfolding leap month_length month_start
-returns-in-7 c = rw c.in-0.keys8 refl
+returns-in-7 c = rw c.in-7.is refl
 
 pub returns-in-8 : goal.returns-in-8
 unfolding leap month_length month_start
-returns-in-8 c = rw c.in-0.keys9 refl
+returns-in-8 c = rw c.in-8.is refl
 
 pub returns-in-9 : goal.returns-in-9
 unfolding leap month_length month_start
-returns-in-9 c = rw c.in-0.keys10 refl
+returns-in-9 c = rw c.in-9.is refl
 
 pub returns-in-10 : goal.returns-in-10
 unfolding leap month_length month_start
-returns-in-10 c = rw c.in-0.keys11 refl
+returns-in-10 c = rw c.in-10.is refl
 
 pub returns-in-11 : goal.returns-in-11
 unfolding leap month_length month_start
-returns-in-11 c = rw c.in-0.keys12 refl
+returns-in-11 c = rw c.in-11.is refl
 
 pub returns-in-12 : goal.returns-in-12
 unfolding leap month_length month_start
-returns-in-12 c = rw c.in-0.keys13 refl
+returns-in-12 c = rw c.in-12.is refl
 
 pub returns-in_default : goal.returns-in_default
 returns-in_default c = absurd (omega (arith, past 13 _ c.in-0.rest, c.requires))
