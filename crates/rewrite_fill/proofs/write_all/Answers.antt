@@ -11,10 +11,10 @@ use Rattle.rewrite_fill.proofs.FillLaws.{filling-turn, filling-end, entries-room
 use Rattle.rewrite_fill.proofs.write_all.Goals as goal
 
 pub overflow_mul-p : goal.overflow_mul-p
-overflow_mul-p c = let p = c.requires.parted.1 in omega (arith, size_room _ _ _ p.0 p.1, c.well-formed)
+overflow_mul-p c = let p = c.requires.parted.1 in omega (arith, size_room _ _ _ p.0 p.1, c.well_formed)
 
 pub overflow_add-p : goal.overflow_add-p
-overflow_add-p c = let p = c.requires.parted.1 in omega (arith, size_room _ _ _ p.0 p.1, c.well-formed)
+overflow_add-p c = let p = c.requires.parted.1 in omega (arith, size_room _ _ _ p.0 p.1, c.well_formed)
 
 pub loop-r-init : goal.loop-r-init
 loop-r-init c = let a = c.args in let p = c.requires in held_start _ _ _ _ _ _ _ _ _ _ _ p.located.1 (omega (arith, roles-are a.s.now a.l p.located.0, p.located.2)) p.parted.1.0 (λ e. (p.parted.0.3 e).1)
@@ -57,7 +57,7 @@ pub overflow_add-d : goal.overflow_add-d
 overflow_add-d c = let i = c.loop-r.invariant.filling in omega (arith, i.few, i.within, i.few-roles)
 
 pub offset_bounds-pairs-at : goal.offset_bounds-pairs-at
-offset_bounds-pairs-at c = omega (arith, (held-room c.loop-r.invariant c.loop-r-test.true c.place-at.ensures c.place-from.ensures c.requires.parted.0.2 (λ e. (c.requires.parted.0.3 e).0)).in_pairs, c.role_at-m.auto.1.1.1.1.1.1.1.0, c.well-formed)
+offset_bounds-pairs-at c = omega (arith, (held-room c.loop-r.invariant c.loop-r-test.true c.place-at.ensures c.place-from.ensures c.requires.parted.0.2 (λ e. (c.requires.parted.0.3 e).0)).in_pairs, c.role_at-m.auto.1.1.1.1.1.1.1.0, c.well_formed)
 
 pub slice_bounds-write_entries-count : goal.slice_bounds-write_entries-count
 slice_bounds-write_entries-count c = omega (arith, (held-room c.loop-r.invariant c.loop-r-test.true c.place-at.ensures c.place-from.ensures c.requires.parted.0.2 (λ e. (c.requires.parted.0.3 e).0)).in_pairs, c.role_at-m.auto.1.1.1.1.1.1.1.0)
@@ -80,7 +80,7 @@ pub overflow_cast-d : goal.overflow_cast-d
 overflow_cast-d c = let i = c.loop-r.invariant.filling in omega (arith, i.few, i.within, i.few-roles)
 
 pub offset_bounds-marks-from : goal.offset_bounds-marks-from
-offset_bounds-marks-from c = omega (arith, (held-room c.loop-r.invariant c.loop-r-test.true c.place-at.ensures c.place-from.ensures c.requires.parted.0.2 (λ e. (c.requires.parted.0.3 e).0)).in-marks, c.role_at-m.auto.1.1.1.1.1.1.1.1.1.0, c.well-formed)
+offset_bounds-marks-from c = omega (arith, (held-room c.loop-r.invariant c.loop-r-test.true c.place-at.ensures c.place-from.ensures c.requires.parted.0.2 (λ e. (c.requires.parted.0.3 e).0)).in-marks, c.role_at-m.auto.1.1.1.1.1.1.1.1.1.0, c.well_formed)
 
 pub slice_bounds-write_rows-count : goal.slice_bounds-write_rows-count
 slice_bounds-write_rows-count c = omega (arith, (held-room c.loop-r.invariant c.loop-r-test.true c.place-at.ensures c.place-from.ensures c.requires.parted.0.2 (λ e. (c.requires.parted.0.3 e).0)).in-marks, c.role_at-m.auto.1.1.1.1.1.1.1.1.1.0)
