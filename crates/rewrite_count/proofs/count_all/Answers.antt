@@ -78,7 +78,7 @@ returns-then-room-d c =
     (q, λ e z. absurd (omega (arith, c.if-room-d.true)))
 
 pub offset_bounds-marks-from : goal.offset_bounds-marks-from
-offset_bounds-marks-from c = let p = c.requires in let q = counting-room c.loop-r.invariant c.loop-r-test.true c.place-at.ensures c.place-from.ensures p.laid.1 p.laid.2 in omega (arith, q.in-marks, c.derive_at-m.auto.1.1.1.1.1.1.1.1.0, c.well-formed)
+offset_bounds-marks-from c = let p = c.requires in let q = counting-room c.loop-r.invariant c.loop-r-test.true c.place-at.ensures c.place-from.ensures p.laid.1 p.laid.2 in omega (arith, q.in-marks, c.derive_at-m.auto.1.1.1.1.1.1.1.1.0, c.well_formed)
 
 pub slice_bounds-count_rows-count : goal.slice_bounds-count_rows-count
 slice_bounds-count_rows-count c = let p = c.requires in let q = counting-room c.loop-r.invariant c.loop-r-test.true c.place-at.ensures c.place-from.ensures p.laid.1 p.laid.2 in omega (arith, q.in-marks, c.derive_at-m.auto.1.1.1.1.1.1.1.1.0)

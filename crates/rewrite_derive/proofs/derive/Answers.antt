@@ -49,16 +49,14 @@ mask_at-requires c = omega (arith, c.loop-i.invariant.room.for-sets, c.loop-i-te
 pub next_mark-k-requires : goal.next_mark-k-requires
 next_mark-k-requires c =
     let g = c.loop-i.invariant in
-    let z = going-room g c.loop-i-test.true in (
-      (z.0, z.1, z.2, z.3, z.4, omega (arith, c.requires.0)),
-      (
-        (
+    let z = going-room g c.loop-i-test.true in record {
+      d_in_bounds = (z.0, z.1, z.2, z.3, z.4, omega (arith, c.requires.0));
+      ready = (
           record { used-are = c.used_in-user_slots.ensures; tabled = c.fill-user_groups.ensures; all_are = c.union_in-a.ensures ∙ ap (λ (m : ℕ). union_of c.args.role.users m 33) c.used_in-user_slots.ensures },
           record { used-are = c.used_in-permission_slots.ensures; tabled = c.fill-permission_groups.ensures; all_are = c.union_in-b.ensures ∙ ap (λ (m : ℕ). union_of c.args.role.permissions m 33) c.used_in-permission_slots.ensures },
-        ),
-        (g.indexed, g.settled, g.small),
-      ),
-    )
+      );
+      indexed = (g.indexed, g.settled, g.small);
+    }
 
 pub overflow_cast-marks : goal.overflow_cast-marks
 overflow_cast-marks c = omega (arith, c.next_mark-k.ensures.0.small, c.next_mark-k.ensures.0.most, (going-room c.loop-i.invariant c.loop-i-test.true).2)

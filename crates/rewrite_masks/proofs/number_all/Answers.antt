@@ -62,7 +62,7 @@ pub overflow_add-i : goal.overflow_add-i
 overflow_add-i c = omega (arith, c.loop-i-test.true, c.ranges.ne.fits)
 
 pub offset_bounds-ends-i : goal.offset_bounds-ends-i
-offset_bounds-ends-i c = omega (arith, c.well-formed.1.1.1.1.1.1.1.1.1.1.1.1.0.1, c.loop-i-test.true, c.loop-i.invariant.1.of-ends, length-set c.args.ends.now 0 0, c.requires.room.0.for-ends)
+offset_bounds-ends-i c = omega (arith, c.well_formed.1.1.1.1.1.1.1.1.1.1.1.1.0.1, c.loop-i-test.true, c.loop-i.invariant.1.of-ends, length-set c.args.ends.now 0 0, c.requires.room.0.for-ends)
 
 pub bounds-ends-i : goal.bounds-ends-i
 bounds-ends-i c = omega (arith, c.loop-i-test.true, c.loop-i.invariant.1.of-ends, length-set c.args.ends.now 0 0, c.requires.room.0.for-ends)
