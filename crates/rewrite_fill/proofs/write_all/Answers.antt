@@ -57,13 +57,13 @@ pub overflow_add-d : goal.overflow_add-d
 overflow_add-d c = let i = c.loop-r.invariant.filling in omega (arith, i.few, i.within, i.few-roles)
 
 pub offset_bounds-pairs-at : goal.offset_bounds-pairs-at
-offset_bounds-pairs-at c = omega (arith, (held-room c.loop-r.invariant c.loop-r-test.true c.place-at.ensures c.place-from.ensures c.requires.parted.2 (λ e. (c.requires.parted.3 e).0)).in_pairs, c.role_at-m.auto.1.1.1.1.1.1.1.0, c.well_formed)
+offset_bounds-pairs-at c = omega (arith, (held-room c.loop-r.invariant c.loop-r-test.true c.place-at.ensures c.place-from.ensures c.requires.parted.2 (λ e. (c.requires.parted.3 e).0)).in_pairs, c.role_at-m.auto.pairs, c.well_formed)
 
 pub slice_bounds-write_entries-count : goal.slice_bounds-write_entries-count
-slice_bounds-write_entries-count c = omega (arith, (held-room c.loop-r.invariant c.loop-r-test.true c.place-at.ensures c.place-from.ensures c.requires.parted.2 (λ e. (c.requires.parted.3 e).0)).in_pairs, c.role_at-m.auto.1.1.1.1.1.1.1.0)
+slice_bounds-write_entries-count c = omega (arith, (held-room c.loop-r.invariant c.loop-r-test.true c.place-at.ensures c.place-from.ensures c.requires.parted.2 (λ e. (c.requires.parted.3 e).0)).in_pairs, c.role_at-m.auto.pairs)
 
 pub slice_bounds-write_entries-start : goal.slice_bounds-write_entries-start
-slice_bounds-write_entries-start c = omega (arith, (held-room c.loop-r.invariant c.loop-r-test.true c.place-at.ensures c.place-from.ensures c.requires.parted.2 (λ e. (c.requires.parted.3 e).0)).in_pairs, c.role_at-m.auto.1.1.1.1.1.1.1.0)
+slice_bounds-write_entries-start c = omega (arith, (held-room c.loop-r.invariant c.loop-r-test.true c.place-at.ensures c.place-from.ensures c.requires.parted.2 (λ e. (c.requires.parted.3 e).0)).in_pairs, c.role_at-m.auto.pairs)
 
 pub write_entries-requires : goal.write_entries-requires
 write_entries-requires c =
@@ -73,20 +73,20 @@ write_entries-requires c =
     let q = held-room c.loop-r.invariant c.loop-r-test.true c.place-at.ensures c.place-from.ensures c.requires.parted.2 (λ e. (c.requires.parted.3 e).0) in
     let z = size_room _ _ _ p.total_value.0 p.total_value.1 in (
       entries-room _ _ _ _ _ l.out l.d l.p l.r l.invariant.filling _ _ _ k.result c.loop-r-test.true p.parted.2.few k.ensures.0 (omega arith),
-      rw (part-is c.place-at.result k.new.1.1.1.1.1.1.1.0) (omega (arith, k.ensures.0.few, q.room.for-pairs, length-drop c.place-at.result l.pairs, length-drop c.place-at.result k.new.1.1.1.1.1.1.1.0, k.auto.1.1.1.1.1.1.1.0)),
+      rw (part-is c.place-at.result k.new.pairs) (omega (arith, k.ensures.0.few, q.room.for-pairs, length-drop c.place-at.result l.pairs, length-drop c.place-at.result k.new.pairs, k.auto.pairs)),
     )
 
 pub overflow_cast-d : goal.overflow_cast-d
 overflow_cast-d c = let i = c.loop-r.invariant.filling in omega (arith, i.few, i.within, i.few-roles)
 
 pub offset_bounds-marks-from : goal.offset_bounds-marks-from
-offset_bounds-marks-from c = omega (arith, (held-room c.loop-r.invariant c.loop-r-test.true c.place-at.ensures c.place-from.ensures c.requires.parted.2 (λ e. (c.requires.parted.3 e).0)).in-marks, c.role_at-m.auto.1.1.1.1.1.1.1.1.1.0, c.well_formed)
+offset_bounds-marks-from c = omega (arith, (held-room c.loop-r.invariant c.loop-r-test.true c.place-at.ensures c.place-from.ensures c.requires.parted.2 (λ e. (c.requires.parted.3 e).0)).in-marks, c.role_at-m.auto.marks, c.well_formed)
 
 pub slice_bounds-write_rows-count : goal.slice_bounds-write_rows-count
-slice_bounds-write_rows-count c = omega (arith, (held-room c.loop-r.invariant c.loop-r-test.true c.place-at.ensures c.place-from.ensures c.requires.parted.2 (λ e. (c.requires.parted.3 e).0)).in-marks, c.role_at-m.auto.1.1.1.1.1.1.1.1.1.0)
+slice_bounds-write_rows-count c = omega (arith, (held-room c.loop-r.invariant c.loop-r-test.true c.place-at.ensures c.place-from.ensures c.requires.parted.2 (λ e. (c.requires.parted.3 e).0)).in-marks, c.role_at-m.auto.marks)
 
 pub slice_bounds-write_rows-start : goal.slice_bounds-write_rows-start
-slice_bounds-write_rows-start c = omega (arith, (held-room c.loop-r.invariant c.loop-r-test.true c.place-at.ensures c.place-from.ensures c.requires.parted.2 (λ e. (c.requires.parted.3 e).0)).in-marks, c.role_at-m.auto.1.1.1.1.1.1.1.1.1.0)
+slice_bounds-write_rows-start c = omega (arith, (held-room c.loop-r.invariant c.loop-r-test.true c.place-at.ensures c.place-from.ensures c.requires.parted.2 (λ e. (c.requires.parted.3 e).0)).in-marks, c.role_at-m.auto.marks)
 
 pub write_rows-p-requires : goal.write_rows-p-requires
 write_rows-p-requires c =
@@ -99,10 +99,10 @@ write_rows-p-requires c =
     let z = size_room _ _ _ p.total_value.0 p.total_value.1 in
     let e = role-rows-are g.0 g.1 k.ensures.0 l.d in
     let y = rows-room _ _ _ _ _ l.out l.d l.p l.r l.invariant.filling _ _ _ k.result c.loop-r-test.true g.2.few k.ensures.0 z in
-    rw (part-is c.place-from.result k.new.1.1.1.1.1.1.1.1.1.0) record {
-      ne_in_bounds = (omega (arith, ap length e, y, c.write_entries.auto.0), omega (arith, l.invariant.filling.few, l.invariant.filling.within, l.invariant.filling.few-roles));
+    rw (part-is c.place-from.result k.new.marks) record {
+      ne_in_bounds = (omega (arith, ap length e, y, c.write_entries.auto.out), omega (arith, l.invariant.filling.few, l.invariant.filling.within, l.invariant.filling.few-roles));
       have_marks = (
-        have-marks g.1 _ g.2.for-sets (omega (arith, q.room.for-marks, length-drop c.place-from.result l.marks, length-drop c.place-from.result k.new.1.1.1.1.1.1.1.1.1.0, k.auto.1.1.1.1.1.1.1.1.1.0)),
+        have-marks g.1 _ g.2.for-sets (omega (arith, q.room.for-marks, length-drop c.place-from.result l.marks, length-drop c.place-from.result k.new.marks, k.auto.marks)),
         g.1.stretched,
         cuts-to E (omega arith) g.0.era-cuts,
         cuts-to 65535 (cycle-fits a.s.now a.l p.located.0) g.0.cell_cuts,
@@ -126,10 +126,10 @@ loop-r-preserved c =
     let h = c.loop-r-test.true in
     let f = filling-turn _ _ _ _ _ l.out l.d l.p l.r l.invariant.filling _ _ _ k.result h g.2.few k.ensures.0
     _ _ _ _ (role-rows-are g.0 g.1 k.ensures.0 l.d)
-    (rw (part-is c.place-at.result k.new.1.1.1.1.1.1.1.0) at c.write_entries.ensures)
-    (rw (part-is c.place-from.result k.new.1.1.1.1.1.1.1.1.1.0) at c.write_rows-p.ensures.0)
-    (rw (part-is c.place-from.result k.new.1.1.1.1.1.1.1.1.1.0) at c.write_rows-p.ensures.1) in
-    held_next l.invariant h c.place-at.ensures c.place-from.ensures f k.auto.1.1.1.1.1.1.1.0 k.auto.1.1.1.1.1.1.1.1.1.0 k.auto.1.1.1.1.1.1.1.1.1.1.1.0 k.ensures.1
+    (rw (part-is c.place-at.result k.new.pairs) at c.write_entries.ensures)
+    (rw (part-is c.place-from.result k.new.marks) at c.write_rows-p.ensures.0)
+    (rw (part-is c.place-from.result k.new.marks) at c.write_rows-p.ensures.1) in
+    held_next l.invariant h c.place-at.ensures c.place-from.ensures f k.auto.pairs k.auto.marks k.auto.links k.ensures.1
 
 pub shape_of-out : goal.shape_of-out
 shape_of-out c = c.loop-r.invariant.filling.long

@@ -72,7 +72,7 @@ write_marked-requires c = let a = c.args in let p = c.requires in let l = c.loop
 )
 
 pub shape_of-out : goal.shape_of-out
-shape_of-out c = c.write_marked.auto.0 ∙ c.loop-j.invariant.run.left.long
+shape_of-out c = c.write_marked.auto.out ∙ c.loop-j.invariant.run.left.long
 
 pub returns : goal.returns
 returns c = let p = c.requires in let l = c.loop-j in
