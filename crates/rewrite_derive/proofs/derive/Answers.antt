@@ -52,8 +52,8 @@ next_mark-k-requires c =
     let z = going-room g c.loop-i-test.true in record {
       d_in_bounds = (z.0, z.1, z.2, z.3, z.4, omega (arith, c.requires.0));
       ready = (
-          record { used-are = c.used_in-user_slots.ensures; tabled = c.fill-user_groups.ensures; all_are = c.union_in-a.ensures ∙ ap (λ (m : ℕ). union_of c.args.role.users m 33) c.used_in-user_slots.ensures },
-          record { used-are = c.used_in-permission_slots.ensures; tabled = c.fill-permission_groups.ensures; all_are = c.union_in-b.ensures ∙ ap (λ (m : ℕ). union_of c.args.role.permissions m 33) c.used_in-permission_slots.ensures },
+        record { used-are = c.used_in-user_slots.ensures; tabled = c.fill-user_groups.ensures; all_are = c.union_in-a.ensures ∙ ap (λ (m : ℕ). union_of c.args.role.users m 33) c.used_in-user_slots.ensures },
+        record { used-are = c.used_in-permission_slots.ensures; tabled = c.fill-permission_groups.ensures; all_are = c.union_in-b.ensures ∙ ap (λ (m : ℕ). union_of c.args.role.permissions m 33) c.used_in-permission_slots.ensures },
       );
       indexed = (g.indexed, g.settled, g.small);
     }
