@@ -25,9 +25,10 @@ next_record-at-requires c = walk-within c.loop-k.invariant.passed c.requires.0 c
 pub loop-k-preserved : goal.loop-k-preserved
 loop-k-preserved c = let w = c.loop-k.invariant in
     let top = few-hours _ c.requires.0 in
-    elim c.if-dates_hold.branch
-      [ then-dates_hold v ↦ gather-in _ _ _ _ w c.loop-k-test.true (omega arith) c.dates_hold.ensures c.next_record-at.ensures v.if-dates_hold.true (v.set-is ∙ v.with-set.ensures)
-      | else-dates_hold v ↦ gather-out _ _ _ _ w c.loop-k-test.true (omega arith) c.dates_hold.ensures c.next_record-at.ensures v.if-dates_hold.false v.set-is ]
+    elim c.if-dates_hold.branch [
+      | then-dates_hold v ↦ gather-in _ _ _ _ w c.loop-k-test.true (omega arith) c.dates_hold.ensures c.next_record-at.ensures v.if-dates_hold.true (v.set-is ∙ v.with-set.ensures)
+      | else-dates_hold v ↦ gather-out _ _ _ _ w c.loop-k-test.true (omega arith) c.dates_hold.ensures c.next_record-at.ensures v.if-dates_hold.false v.set-is
+    ]
 
 pub returns : goal.returns
 returns c = gather-all _ _ _ _ c.loop-k.invariant c.loop-k-test.false

@@ -40,9 +40,10 @@ pub loop-j-preserved : goal.loop-j-preserved
 loop-j-preserved c = let w = c.loop-j.invariant in
     let p = c.requires in
     let l = c.loop-j-test.true in
-    elim c.if-o-x.branch
-      [ then-o-x v ↦ rw v.sets-is (fill-in w l c.if-e-x.false p.1 v.if-o-x.true _ v.with.ensures)
-      | else-o-x v ↦ rw v.sets-is (fill-out w l c.if-e-x.false v.if-o-x.false) ]
+    elim c.if-o-x.branch [
+      | then-o-x v ↦ rw v.sets-is (fill-in w l c.if-e-x.false p.1 v.if-o-x.true _ v.with.ensures)
+      | else-o-x v ↦ rw v.sets-is (fill-out w l c.if-e-x.false v.if-o-x.false)
+    ]
 
 pub shape_of-sets : goal.shape_of-sets
 shape_of-sets c = c.loop-j.invariant.long

@@ -53,9 +53,10 @@ loop-j-smaller c = omega arith
 
 pub loop-j-preserved : goal.loop-j-preserved
 loop-j-preserved c = let p = c.requires in let l = c.loop-j in let h = c.loop-j-test.true in let m = c.mark_of-m.ensures in
-    elim c.if-m-run.branch
-      [ then-m-run w ↦ stretch-written p.have_marks.0 p.have_marks.1 p.have_marks.2 l.invariant h (λ z. omega (arith, z, w.if-m-run.true, m)) _ _ _ _ (w.out-is ∙ w.write_marked-p.ensures.0) (w.p-is ∙ w.write_marked-p.ensures.1) (w.run-is ∙ m) w.low-is
-      | else-m-run w ↦ stretch-kept p.have_marks.0 p.have_marks.1 p.have_marks.2 l.invariant h (omega (arith, w.if-m-run.false, m)) _ _ _ _ w.out-is w.p-is w.run-is w.low-is ]
+    elim c.if-m-run.branch [
+      | then-m-run w ↦ stretch-written p.have_marks.0 p.have_marks.1 p.have_marks.2 l.invariant h (λ z. omega (arith, z, w.if-m-run.true, m)) _ _ _ _ (w.out-is ∙ w.write_marked-p.ensures.0) (w.p-is ∙ w.write_marked-p.ensures.1) (w.run-is ∙ m) w.low-is
+      | else-m-run w ↦ stretch-kept p.have_marks.0 p.have_marks.1 p.have_marks.2 l.invariant h (omega (arith, w.if-m-run.false, m)) _ _ _ _ w.out-is w.p-is w.run-is w.low-is
+    ]
 
 pub offset_bounds-cells-nc : goal.offset_bounds-cells-nc
 offset_bounds-cells-nc c = omega arith
