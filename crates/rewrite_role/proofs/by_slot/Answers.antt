@@ -70,11 +70,12 @@ loop-i-smaller c = omega arith
 pub loop-i-preserved : goal.loop-i-preserved
 loop-i-preserved c = let a = c.args in let l = c.loop-i in (
   omega arith,
-  elim c.if-s-p.branch
-    [ then-s-p w ↦
+  elim c.if-s-p.branch [
+    | then-s-p w ↦
         let h = slot_at a.s.now a.at a.n c.requires l.i c.loop-i-test.true _ _ w.decode.ensures w.slot-k.ensures in
         slots-in (row_at a.s.now a.at) l.i a.role l.sets l.invariant.1 _ _ _ w.if-s-p.true h.0 h.1 w.with.ensures w.sets-is
-    | else-s-p w ↦ slots-out (row_at a.s.now a.at) l.i a.role l.sets l.invariant.1 _ w.if-s-p.false w.sets-is ],
+    | else-s-p w ↦ slots-out (row_at a.s.now a.at) l.i a.role l.sets l.invariant.1 _ w.if-s-p.false w.sets-is
+  ],
 )
 
 pub returns : goal.returns
