@@ -40,7 +40,7 @@ pub bounds-lens-j : goal.bounds-lens-j
 bounds-lens-j c = omega (arith, c.loop-j-test.true, c.requires.have_marks.1.long)
 
 pub overflow_cast-c : goal.overflow_cast-c
-overflow_cast-c c = omega (arith, c.shared_slice_known-in-loop-j-1.given c.loop-j.j)
+overflow_cast-c c = omega (arith, c.type_inv.lens c.loop-j.j)
 
 pub overflow_add-c : goal.overflow_add-c
 overflow_add-c c = let p = c.requires in omega (arith, stretch-within p.have_marks.0 p.have_marks.1 p.have_marks.2 c.loop-j.invariant c.loop-j-test.true, p.have_marks.2.long)
