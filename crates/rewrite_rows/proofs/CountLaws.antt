@@ -1,5 +1,5 @@
 -- How many rows there are, counted by the marks alone.
---     starts-same, starts-one, starts-most    a field that begins no row, or one
+--     starts-same, starts-one, starts-most                 a field that begins no row, or one
 --     runs-rows                                            the count is the number of rows that are written
 --     runs-stretches, stretches-rows                       the same by stretches: a stretch of cells with one mark counts once
 --     InCount, era-most                                    stretches of an era that are counted; no more rows than stretches
