@@ -9,8 +9,8 @@ const HEAD: &str = "\
 # Wrong programs that the prover must refuse
 
 Made from the files below crates/ by rust/audit, and compared by the gate, which tries each: `crate/name` is the edit crates/crate/must-fail/name.edit,
-one line of the crate's source or definitions. Each is refused at a fact that no longer holds, which its file tells, and never for want of a fact's
-name. docs/CLAIMS.md says which wrong programs they stand for, and which others were tried once.
+one line of the crate's source, definitions or laws, with an import where it needs one. Each is refused at a fact that no longer holds, which its file
+tells, and never for want of a fact's name. docs/CLAIMS.md says which wrong programs they stand for.
 ";
 
 struct Edit<'a> {
@@ -44,8 +44,8 @@ fn tokens(file: &str, text: &str) -> Result<Vec<String>, String> {
 fn judged(repository: &Repository, krate: &str, edit: &Edit) -> Result<(), String> {
     let path = format!("crates/{krate}/{}", edit.file);
     let before = repository.files.get(&path).ok_or(format!("there is no {path}"))?;
-    if !edit.file.starts_with("src/") && !edit.file.starts_with("specs/") {
-        return Err("it changes neither source nor definitions".to_string());
+    if !["src/", "specs/", "proofs/"].iter().any(|folder| edit.file.starts_with(folder)) {
+        return Err("it changes neither source nor definitions nor laws".to_string());
     }
     if before.matches(edit.old).count() != 1 {
         return Err("what it changes does not stand there once".to_string());
