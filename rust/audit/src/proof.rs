@@ -275,7 +275,7 @@ impl<'a> Proof<'a> {
             let kind = if field { Kind::Field } else { Kind::Constructor };
             self.declare(name, kind, whole, within);
             let text = bare(self.word(name)).to_string();
-            let signs: Vec<&str> = text.split('_').filter(|sign| !sign.is_empty()).collect();
+            let signs: Vec<&str> = text.split('◌').filter(|sign| !sign.is_empty()).collect();
             let read = (part.end..whole.end).any(|later| {
                 signs.contains(&bare(self.word(later))) && self.word(later - 1) != "."
             });

@@ -100,6 +100,9 @@ pub fn place(path: &str) -> Option<(&str, &str)> {
     Some((parts.next()?, parts.next()?))
 }
 
+/// The kit's own libraries of Rattle, on which every crate stands.
+const KIT: [&str; 2] = ["core", "std"];
+
 /// The last name of a file's module, with its dot.
 fn module_name(file: &str) -> String {
     let name = file.rsplit('/').next().unwrap_or(file);
@@ -132,10 +135,12 @@ impl Module {
 
     /// The module that a path leads through, which may go on to an item.
     pub fn on_the_way(path: &str, repository: &Repository) -> Module {
-        let Some(rest) = path.strip_prefix("Rattle·") else { return Module::Kit };
-        let (library, inner) = rest.split_once('.').unwrap_or((rest, ""));
-        let krate = library.split('·').next().unwrap_or(library);
-        let parts: Vec<&str> = inner.split('.').collect();
+        let mut names = path.split('.');
+        let (library, krate) = (names.next(), names.next().unwrap_or(""));
+        if library != Some("Rattle") || KIT.contains(&krate) {
+            return Module::Kit;
+        }
+        let parts: Vec<&str> = names.collect();
         if let ["specs", "declared", name, ..] = parts[..] {
             return Module::Declared { krate: krate.to_string(), name: name.to_string() };
         }

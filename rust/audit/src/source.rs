@@ -97,6 +97,7 @@ impl<'a> Source<'a> {
         let mut exported = false;
         loop {
             match self.word(at) {
+                "#" if self.word(at + 1) == "!" => return self.closed(at + 2),
                 "#" => {
                     let end = self.closed(at + 1)?;
                     exported |= (at..end).any(|at| self.word(at) == "no_mangle");

@@ -177,7 +177,7 @@ impl Kit<'_> {
     /// Whether a bound name hides one of the kit's that the file has; a constructor in a pattern
     /// hides nothing.
     fn hidden(&self, name: &str, imports: &[Import]) -> bool {
-        let operator = format!("_{name}_");
+        let operator = format!("◌{name}◌");
         let brought =
             imports.iter().any(|import| [name, &operator].contains(&import.name.as_str()));
         (brought || PRELUDE.contains(&name)) && self.has(name) && !CONSTRUCTORS.contains(&name)
