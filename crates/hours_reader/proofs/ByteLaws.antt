@@ -1,7 +1,7 @@
 -- Values in their ranges are spelled by bytes.
 --     in-ref, in-records                     references, hours records
 -- Assumes nothing.
-use Prim.Native.Nat.{ℕ, ◌≤◌, ◌<◌}
+use Prim.Native.Nat.{ℕ, ◌≤◌, ◌<◌, ◌+◌}
 use mathlib.Core.Path.{◌≡◌}
 use mathlib.Core.Bool.{false}
 use mathlib.Core.List.{List, [], ◌∷◌}
@@ -27,7 +27,7 @@ module _ (c : ℕ) (short : c < 65536) where
   in_pairs : (low : ℕ) (ps : List Pair) → PairsWell c low ps → AllBytes (joined pair_bytes ps)
   unfolding joined pair_bytes
   in_pairs low [] w = no_bytes
-  in_pairs low (p ∷ ps) w = (in16 (omega (arith, w.0.ends)) then in16 (omega (arith, w.0.ends))) then in_pairs _ ps w.1
+  in_pairs low (p ∷ ps) w = (in16 (omega (arith, w.0.ends)) then in16 (omega (arith, w.0.ends))) then in_pairs (p.offset + p.length + 1) ps w.1
 
   in-record : (h : Hours) → length h.pairs < 65536 → HoursWell c h → AllBytes (hours_bytes h)
   unfolding hours_bytes E

@@ -106,6 +106,10 @@ module _ (s : List ℕ) (c : ℕ) where
         ) (turns-clear _ _ (λ k l. pair-clear (at + 10) k (pairs-each c _ _ (earliest s (at + 10)) (λ k. refl) w.pairs k l)))
 
   module _ (from n : ℕ) (within : record_at s from n ≤ length s) where
+    clear-at : (k : ℕ) → k < n → pairs_before s from (suc k) ≤ pairs_before s from n → HoursWell c (hours_at s (record_at s from k)) → pairs_before s from n ≤ 256 → record_judged s c from k ≡ 0
+    unfolding record_judged pairs_before
+    clear-at k l more w f = hours-clear _ _ (omega (arith, record_at-is s from k, record_at-is s from n, more)) (omega (arith, more)) w
+
     pub records-iff : (in_turn (record_judged s c from) n ≡ 0) ↔ (All (HoursWell c) (hours_from s from n) × (pairs_in (hours_from s from n) ≤ 256))
     unfolding hours_from
     records-iff = (
@@ -119,5 +123,4 @@ module _ (s : List ℕ) (c : ℕ) where
 
         clear : (k : ℕ) → k < n → HoursWell c (hours_at s (record_at s from k)) → pairs_before s from n ≤ 256 → record_judged s c from k ≡ 0
         clear k l w f =
-            let more : pairs_before s from (suc k) ≤ pairs_before s from n = pairs_before-up s from (suc k) n l in
-            unfold record_judged pairs_before in hours-clear _ _ (omega (arith, record_at-is s from k, record_at-is s from n, more)) (omega (arith, more)) w
+            clear-at k l (pairs_before-up s from (suc k) n l) w f

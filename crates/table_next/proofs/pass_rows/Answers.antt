@@ -1,7 +1,6 @@
 -- `least` is the first minute that the rows so far give.
 use Prim.Native.Nat.{◌-◌}
 use mathlib.Core.Path.{◌∙◌}
-use mathlib.Core.Logic.{⊎_elim}
 use native.Mathlib.Nat.{le_antisymm}
 use native.Mathlib.Omega.{arith}
 use Rattle.table_reader.proofs.ReadLaws.{opened-header}
@@ -9,6 +8,7 @@ use Rattle.table.proofs.HeaderLaws.{counts-are, laid}
 use Rattle.table_answers.proofs.AnswerLaws.{row_inside}
 use Rattle.table_next.proofs.PassLaws.{row-ready, pass-most, pass-more, pass_same, pass-other, pass-met}
 use Rattle.table_next.proofs.pass_rows.Goals as goal
+use Rattle.table_next.proofs.pass_rows.Goals.{then-x-least+then-row_role-below+else-x-m, then-x-least+else-row_role-below, else-x-least}
 
 pub loop-k-init : goal.loop-k-init
 loop-k-init c = (c.requires.4, c.requires.6)
@@ -38,12 +38,11 @@ loop-k-preserved c =
     let i = c.loop-k.invariant.1 in
     let x = c.row_first-x.ensures in (
       omega (arith, c.loop-k-test.true),
-      ⊎_elim
-          (λ w. w.4 ∙ pass-more _ _ _ _ _ _ _ _ i _ x w.0.taken (omega (arith, w.2.taken, w.1.ensures)))
-          (⊎_elim
-          (λ w. w.3 ∙ pass-other _ _ _ _ _ _ _ _ i _ x (omega (arith, w.2.left, w.1.ensures)))
-          (λ w. w.1 ∙ pass_same _ _ _ _ _ _ _ _ i _ x w.0.left))
-          c.if-x-least.branch,
+      elim c.if-x-least.branch [
+        | then-x-least+then-row_role-below+else-x-m w ↦ w.least-is ∙ pass-more _ _ _ _ _ _ _ _ i _ x w.if-x-least.true (omega (arith, w.if-row_role-below.true, w.row_role.ensures))
+        | then-x-least+else-row_role-below w ↦ w.least-is ∙ pass-other _ _ _ _ _ _ _ _ i _ x (omega (arith, w.if-row_role-below.false, w.row_role.ensures))
+        | else-x-least w ↦ w.least-is ∙ pass_same _ _ _ _ _ _ _ _ i _ x w.if-x-least.false
+      ],
     )
 
 pub returns : goal.returns

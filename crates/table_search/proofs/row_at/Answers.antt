@@ -1,15 +1,16 @@
 -- No row outside what is left to look at covers the minute.
 use Prim.Native.Nat.{◌-◌}
-use mathlib.Core.Logic.{⊎_elim}
 use native.Mathlib.Omega.{arith}
 use Rattle.table.proofs.HeaderLaws.{counts-are}
 use Rattle.table_search.proofs.StageLaws.{narrow-none, narrow-up, narrow-down, row-at-stage, row-none}
 use Rattle.table_search.proofs.row_at.Goals as goal
+use Rattle.table_search.proofs.row_at.Goals.{then-guess-rows, else-guess-rows}
+use Rattle.table_search.proofs.row_at.Goals.{then-at-eq0, else-at-eq0}
 
 pub loop-a-init : goal.loop-a-init
 loop-a-init c = (
   narrow-none _ _ c.requires.0 _ _,
-  λ l. ⊎_elim (λ w. (omega arith, omega (arith, w.0.taken, w.1))) (λ w. (omega arith, omega (arith, w.1))) c.if-guess-rows.branch,
+  λ l. elim c.if-guess-rows.branch [ then-guess-rows w ↦ (omega arith, omega (arith, w.if-guess-rows.true, w.m-is)) | else-guess-rows w ↦ (omega arith, omega (arith, w.m-is)) ],
 )
 
 pub stage-at-requires : goal.stage-at-requires
@@ -34,23 +35,23 @@ before-m-requires c = (c.loop-a.invariant.1 c.loop-a-test.true).0
 pub loop-a-smaller : goal.loop-a-smaller
 loop-a-smaller c =
     let m = c.loop-a.invariant.1 c.loop-a-test.true in
-    ⊎_elim (λ w. omega (arith, w.3, w.4, m)) (λ w. omega (arith, w.2, w.3, m)) c.if-at-eq0.branch
+    elim c.if-at-eq0.branch [ then-at-eq0 w ↦ omega (arith, w.a-is, w.b-is, m) | else-at-eq0 w ↦ omega (arith, w.a-is, w.b-is, m) ]
 
 pub loop-a-preserved : goal.loop-a-preserved
 loop-a-preserved c =
     let i = c.loop-a.invariant in
     let m = i.1 c.loop-a-test.true in
     let o = c.requires.0 in
-    ⊎_elim
-    (λ w. rw (w.4, w.5) (
-      narrow-up _ _ o _ _ _ _ _ _ i.0 m.1 c.stage-at.ensures w.0.taken _ (omega (arith, w.3)),
-      λ l. (omega (arith, w.3, w.2.ensures.0), w.2.ensures.1 (omega (arith, w.3, l))),
-    ))
-    (λ w. rw (w.2, w.3, w.4) (
-      narrow-down _ _ o _ _ _ _ _ _ i.0 m.1 c.stage-at.ensures m.0 (omega (arith, w.0.left, c.if-at-eq1.false)),
-      λ l. (w.1.ensures.0, w.1.ensures.1 l),
-    ))
-    c.if-at-eq0.branch
+    elim c.if-at-eq0.branch [
+      | then-at-eq0 w ↦ rw (w.b-is, w.m-is) (
+        narrow-up _ _ o _ _ _ _ _ _ i.0 m.1 c.stage-at.ensures w.if-at-eq0.true _ (omega (arith, w.a-is)),
+        λ l. (omega (arith, w.a-is, w.after-m.ensures.0), w.after-m.ensures.1 (omega (arith, w.a-is, l))),
+      )
+      | else-at-eq0 w ↦ rw (w.a-is, w.b-is, w.m-is) (
+        narrow-down _ _ o _ _ _ _ _ _ i.0 m.1 c.stage-at.ensures m.0 (omega (arith, w.if-at-eq0.false, c.if-at-eq1.false)),
+        λ l. (w.before-m.ensures.0, w.before-m.ensures.1 l),
+      )
+    ]
 
 pub returns : goal.returns
 returns c = row-none _ _ c.requires.0 _ _ _ _ c.loop-a.invariant.0 c.loop-a-test.false

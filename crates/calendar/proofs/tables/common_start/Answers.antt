@@ -58,6 +58,3 @@ returns-in-11 c = rw c.in-11.is refl
 pub returns-in-12 : goal.returns-in-12
 unfolding leap month_length month_start
 returns-in-12 c = rw c.in-12.is refl
-
-pub returns-in_default : goal.returns-in_default
-returns-in_default c = absurd (omega (arith, past 13 _ c.in-0.rest, c.requires))
