@@ -355,6 +355,18 @@ fn edits_that_try_nothing() {
     some(hidden(EDITED, "src/lib.rt", "src/other.rt"), "there is no crates/clock/src/other.rt");
     some(hidden(EDITED, "# fails on", "# at"), "no line that says what it fails on");
     some(after(EDITED, "an end", "the end"), "docs/EDITS.md");
+    let more = "x <= b)\nold: pub struct Told {\nnew: pub struct Told { // odd\n";
+    some(hidden(EDITED, "x <= b)\n", &more.replace("// odd", "/* odd */")), "does not stand there");
+    some(
+        hidden(EDITED, "x <= b)\n", "x <= b)\nfile: specs/Odd.antt\nold: a\nnew: b\n"),
+        "there is no",
+    );
+    let whole = "x <= b)\nfile: specs/Believed/Minutes.antt\nold: leb a x\nnew: leb x a\n";
+    nothing(hidden(EDITED, "x <= b)\n", whole));
+    some(
+        hidden(EDITED, "x <= b)\n", &whole.replace("leb x a", "leb a  x")),
+        "changes nothing that",
+    );
     let listed = format!("## Tried once\n\n`clock/end_counts`\n");
     some(hidden(PAGE, "## Demand 1", &format!("{listed}\n## Demand 1")), "and is there");
 }
