@@ -355,18 +355,14 @@ fn edits_that_try_nothing() {
     some(hidden(EDITED, "src/lib.rt", "src/other.rt"), "there is no crates/clock/src/other.rt");
     some(hidden(EDITED, "# fails on", "# at"), "no line that says what it fails on");
     some(after(EDITED, "an end", "the end"), "docs/EDITS.md");
-    let more = "x <= b)\nold: pub struct Told {\nnew: pub struct Told { // odd\n";
-    some(hidden(EDITED, "x <= b)\n", &more.replace("// odd", "/* odd */")), "does not stand there");
-    some(
-        hidden(EDITED, "x <= b)\n", "x <= b)\nfile: specs/Odd.antt\nold: a\nnew: b\n"),
-        "there is no",
-    );
-    let whole = "x <= b)\nfile: specs/Believed/Minutes.antt\nold: leb a x\nnew: leb x a\n";
-    nothing(hidden(EDITED, "x <= b)\n", whole));
-    some(
-        hidden(EDITED, "x <= b)\n", &whole.replace("leb x a", "leb a  x")),
-        "changes nothing that",
-    );
+    let more = |more: &str| hidden(EDITED, "x <= b)\n", &format!("x <= b)\n{more}"));
+    some(more("old: nowhere\nnew: b\n"), "does not stand there once");
+    some(more("old: told(a <= x && x <= b)\n"), "nothing in its place");
+    some(more("file: specs/Odd.antt\nold: a\nnew: b\n"), "there is no");
+    some(more("odd: told\n"), "no line to change");
+    let definition = "file: specs/Believed/Minutes.antt\nold: leb a x\nnew: ";
+    nothing(more(&format!("{definition}leb x a\n")));
+    some(more(&format!("{definition}leb a  x\n")), "changes nothing that the prover reads");
     let listed = format!("## Tried once\n\n`clock/end_counts`\n");
     some(hidden(PAGE, "## Demand 1", &format!("{listed}\n## Demand 1")), "and is there");
 }
