@@ -2,7 +2,7 @@
 --     era-values, cell-values                              none is past E; none is past the cycle
 --     hours_cuts-length, pair_cuts-length, pairs_cuts-length  how many there are
 -- Assumes nothing.
-use Prim.Native.Nat.{ℕ, ◌*◌, ◌≤◌}
+use Prim.Native.Nat.{ℕ, ◌+◌, ◌*◌, ◌≤◌}
 use mathlib.Core.Path.{◌≡◌, refl}
 use mathlib.Core.List.{List, [], ◌∷◌}
 use native.Mathlib.Omega.{arith}
@@ -28,7 +28,7 @@ hours-upto c (h ∷ hs) w = (omega (arith, w.0.ordered, w.0.ends), (w.0.ends, ho
 pair-upto : (c low : ℕ) (ps : List Pair) → PairsWell c low ps → Upto c (pair_cuts ps)
 unfolding pair_cuts
 pair-upto c low [] w = tt
-pair-upto c low (p ∷ ps) w = (omega (arith, w.0.ends), (w.0.ends, pair-upto c _ ps w.1))
+pair-upto c low (p ∷ ps) w = (omega (arith, w.0.ends), (w.0.ends, pair-upto c (p.offset + p.length + 1) ps w.1))
 
 pairs-upto : (c : ℕ) (hs : List Hours) → All (HoursWell c) hs → Upto c (pairs_cuts hs)
 unfolding pairs_cuts

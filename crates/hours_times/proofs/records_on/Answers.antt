@@ -1,12 +1,12 @@
 -- The records so far that hold at the minute are gathered.
 use Prim.Native.Nat.{◌-◌}
 use mathlib.Core.Path.{◌∙◌}
-use mathlib.Core.Logic.{⊎_elim}
 use native.Mathlib.Omega.{arith}
 use Rattle.hours.specs.Inside.{holding}
 use Rattle.hours_reader.proofs.WalkLaws.{gather_none, gather-in, gather-out, gather-all}
 use Rattle.hours_times.proofs.SpanLaws.{passed-ready}
 use Rattle.hours_times.proofs.records_on.Goals as goal
+use Rattle.hours_times.proofs.records_on.Goals.{then-r, else-r}
 
 pub phase-x-requires : goal.phase-x-requires
 phase-x-requires c = c.requires.2
@@ -21,10 +21,7 @@ pub next_record-at-requires : goal.next_record-at-requires
 next_record-at-requires c = (passed-ready c.loop-k.invariant.passed c.requires.0 c.loop-k-test.true).within
 
 pub loop-k-preserved : goal.loop-k-preserved
-loop-k-preserved c = ⊎_elim
-    (λ w. gather-in _ _ _ _ c.loop-k.invariant c.loop-k-test.true (omega (arith, c.requires.1)) c.record_span-r.ensures.is c.next_record-at.ensures w.0.taken (w.2 ∙ w.1.ensures))
-    (λ w. gather-out _ _ _ _ c.loop-k.invariant c.loop-k-test.true (omega (arith, c.requires.1)) c.record_span-r.ensures.is c.next_record-at.ensures w.0.left w.1)
-    c.if-r.branch
+loop-k-preserved c = elim c.if-r.branch [ then-r w ↦ gather-in _ _ _ _ c.loop-k.invariant c.loop-k-test.true (omega (arith, c.requires.1)) c.record_span-r.ensures.is c.next_record-at.ensures w.if-r.true (w.set-is ∙ w.with-set.ensures) | else-r w ↦ gather-out _ _ _ _ c.loop-k.invariant c.loop-k-test.true (omega (arith, c.requires.1)) c.record_span-r.ensures.is c.next_record-at.ensures w.if-r.false w.set-is ]
 
 pub returns : goal.returns
 unfolding holding

@@ -1,11 +1,11 @@
 -- Of the records so far: the shortest times of those that count.
 use Prim.Native.Nat.{◌-◌}
 use mathlib.Core.Path.{sym, ◌∙◌}
-use mathlib.Core.Logic.{⊎_elim}
 use native.Mathlib.Omega.{arith}
 use Rattle.minutes.specs.Believed.Minutes.{E}
 use Rattle.hours_times.proofs.SpanLaws.{spans-none, spans-more, spans-past, spans_all, record-ready}
 use Rattle.hours_times.proofs.records_span.Goals as goal
+use Rattle.hours_times.proofs.records_span.Goals.{then-contains, else-contains}
 
 pub phase-x-requires : goal.phase-x-requires
 phase-x-requires c = c.requires.2
@@ -22,10 +22,7 @@ next_record-at-requires c = (record-ready c.loop-k.invariant c.requires.0 c.loop
 
 pub loop-k-preserved : goal.loop-k-preserved
 loop-k-preserved c = let w = c.loop-k.invariant in let l = c.loop-k-test.true in
-    ⊎_elim
-    (λ v. spans-more w l c.next_record-at.ensures v.1.ensures (omega (arith, v.2.ensures, v.4)) (omega (arith, v.3.ensures, v.5)))
-    (λ v. spans-past w l c.next_record-at.ensures (sym c.contains.ensures ∙ v.0.left) v.1 v.2)
-    c.if-contains.branch
+    elim c.if-contains.branch [ then-contains v ↦ spans-more w l c.next_record-at.ensures v.record_span-r.ensures (omega (arith, v.earlier-until.ensures, v.until-is)) (omega (arith, v.earlier-era.ensures, v.era-is)) | else-contains v ↦ spans-past w l c.next_record-at.ensures (sym c.contains.ensures ∙ v.if-contains.false) v.until-is v.era-is ]
 
 pub returns : goal.returns
 returns c = spans_all c.loop-k.invariant c.loop-k-test.false

@@ -17,7 +17,7 @@ pub returns-in-Refused : goal.returns-in-Refused
 returns-in-Refused c = let a = c.args in not-a-rota a.s.now a.out.now a.room _ (ap layout_given (sym c.in-Refused.is) ∙ c.locate.ensures)
 
 pub shape_of-out : goal.shape_of-out
-shape_of-out c = c.rewrite_located.auto.1.1.1.1.0
+shape_of-out c = c.rewrite_located.auto.out
 
 pub returns-in-Accepted : goal.returns-in-Accepted
 returns-in-Accepted c = let a = c.args in let w = located-by a.s.now _ (ap layout_given (sym c.in-Accepted.is) ∙ c.locate.ensures) in

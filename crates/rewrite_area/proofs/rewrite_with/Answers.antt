@@ -17,34 +17,34 @@ place_table-k-requires c =
     let p = c.requires in
     let t = c.trees-w.ensures in
     let q = c.number-n in
-    record { located = p.located; numbered = (q.ensures, derive-room p.scratch q.ensures.few t.0 t.1 q.auto.1.1.1.1.1.1.1.1.1.1.1.0 q.auto.1.1.1.1.1.1.1.1.1.1.1.1.0) }
+    record { located = p.located; numbered = (q.ensures, derive-room p.scratch q.ensures.few t.0 t.1 q.auto.sets q.auto.links) }
 
 pub answer-requires : goal.answer-requires
 answer-requires c = let q = c.place_table-k.ensures.0 in (q.few, q.few-rows)
 
 pub shape_of-held : goal.shape_of-held
-shape_of-held c = c.number-n.auto.1.1.1.1.1.1.0
+shape_of-held c = c.number-n.auto.held
 
 pub shape_of-row : goal.shape_of-row
-shape_of-row c = c.number-n.auto.1.1.1.1.1.1.1.0
+shape_of-row c = c.number-n.auto.row
 
 pub shape_of-kinds : goal.shape_of-kinds
-shape_of-kinds c = c.number-n.auto.1.1.1.1.1.1.1.1.0
+shape_of-kinds c = c.number-n.auto.kinds
 
 pub shape_of-lens : goal.shape_of-lens
-shape_of-lens c = c.number-n.auto.1.1.1.1.1.1.1.1.1.0
+shape_of-lens c = c.number-n.auto.lens
 
 pub shape_of-masks : goal.shape_of-masks
-shape_of-masks c = c.number-n.auto.1.1.1.1.1.1.1.1.1.1.1.0
+shape_of-masks c = c.number-n.auto.sets
 
 pub shape_of-pairs : goal.shape_of-pairs
-shape_of-pairs c = c.place_table-k.auto.1.1.1.1.1.1.1.1.1.1.1.1.1.1.1.0
+shape_of-pairs c = c.place_table-k.auto.pairs
 
 pub shape_of-marks : goal.shape_of-marks
-shape_of-marks c = c.place_table-k.auto.1.1.1.1.1.1.1.1.1.1.1.1.1.1.1.1.0
+shape_of-marks c = c.place_table-k.auto.marks
 
 pub shape_of-links : goal.shape_of-links
-shape_of-links c = c.place_table-k.auto.1.1.1.1.1.1.1.1.1.1.1.1.1.1.1.1.1.0 ∙ c.number-n.auto.1.1.1.1.1.1.1.1.1.1.1.1.0
+shape_of-links c = c.place_table-k.auto.links ∙ c.number-n.auto.links
 
 pub returns : goal.returns
 returns c =

@@ -62,13 +62,13 @@ pub shape_of-found-then-room-d : goal.shape_of-found-then-room-d
 shape_of-found-then-room-d c = simp length-set c.loop-r.invariant.found-long
 
 pub shape_of-pairs-then-room-d : goal.shape_of-pairs-then-room-d
-shape_of-pairs-then-room-d c = c.derive_at-m.auto.1.1.1.1.1.1.0 ∙ c.loop-r.invariant.lent.of-pairs
+shape_of-pairs-then-room-d c = c.derive_at-m.auto.pairs ∙ c.loop-r.invariant.lent.of-pairs
 
 pub shape_of-marks-then-room-d : goal.shape_of-marks-then-room-d
-shape_of-marks-then-room-d c = c.derive_at-m.auto.1.1.1.1.1.1.1.1.0 ∙ c.loop-r.invariant.lent.of-marks
+shape_of-marks-then-room-d c = c.derive_at-m.auto.marks ∙ c.loop-r.invariant.lent.of-marks
 
 pub shape_of-links-then-room-d : goal.shape_of-links-then-room-d
-shape_of-links-then-room-d c = c.derive_at-m.auto.1.1.1.1.1.1.1.1.1.1.0 ∙ c.loop-r.invariant.lent.of-links
+shape_of-links-then-room-d c = c.derive_at-m.auto.links ∙ c.loop-r.invariant.lent.of-links
 
 pub returns-then-room-d : goal.returns-then-room-d
 returns-then-room-d c =
@@ -78,20 +78,20 @@ returns-then-room-d c =
     (q, λ e z. absurd (omega (arith, c.if-room-d.true)))
 
 pub offset_bounds-marks-from : goal.offset_bounds-marks-from
-offset_bounds-marks-from c = let p = c.requires in let q = counting-room c.loop-r.invariant c.loop-r-test.true c.place-at.ensures c.place-from.ensures p.laid.1 p.laid.2 in omega (arith, q.in-marks, c.derive_at-m.auto.1.1.1.1.1.1.1.1.0, c.well-formed)
+offset_bounds-marks-from c = let p = c.requires in let q = counting-room c.loop-r.invariant c.loop-r-test.true c.place-at.ensures c.place-from.ensures p.laid.1 p.laid.2 in omega (arith, q.in-marks, c.derive_at-m.auto.marks, c.well_formed)
 
 pub slice_bounds-count_rows-count : goal.slice_bounds-count_rows-count
-slice_bounds-count_rows-count c = let p = c.requires in let q = counting-room c.loop-r.invariant c.loop-r-test.true c.place-at.ensures c.place-from.ensures p.laid.1 p.laid.2 in omega (arith, q.in-marks, c.derive_at-m.auto.1.1.1.1.1.1.1.1.0)
+slice_bounds-count_rows-count c = let p = c.requires in let q = counting-room c.loop-r.invariant c.loop-r-test.true c.place-at.ensures c.place-from.ensures p.laid.1 p.laid.2 in omega (arith, q.in-marks, c.derive_at-m.auto.marks)
 
 pub slice_bounds-count_rows-start : goal.slice_bounds-count_rows-start
-slice_bounds-count_rows-start c = let p = c.requires in let q = counting-room c.loop-r.invariant c.loop-r-test.true c.place-at.ensures c.place-from.ensures p.laid.1 p.laid.2 in omega (arith, q.in-marks, c.derive_at-m.auto.1.1.1.1.1.1.1.1.0)
+slice_bounds-count_rows-start c = let p = c.requires in let q = counting-room c.loop-r.invariant c.loop-r-test.true c.place-at.ensures c.place-from.ensures p.laid.1 p.laid.2 in omega (arith, q.in-marks, c.derive_at-m.auto.marks)
 
 pub count_rows-rows-requires : goal.count_rows-rows-requires
 count_rows-rows-requires c =
     let p = c.requires in
     let k = c.derive_at-m in
     let q = counting-room c.loop-r.invariant c.loop-r-test.true c.place-at.ensures c.place-from.ensures p.laid.1 p.laid.2 in
-    rw (part-is c.place-from.result k.new.1.1.1.1.1.1.1.1.0) (have-marks p.laid.0.numbered _ p.laid.1.for-sets (omega (arith, q.room.for-marks, length-drop c.place-from.result c.loop-r.marks, length-drop c.place-from.result k.new.1.1.1.1.1.1.1.1.0, k.auto.1.1.1.1.1.1.1.1.0)), p.laid.0.numbered.stretched.long-ends, p.laid.0.numbered.stretched.rise)
+    rw (part-is c.place-from.result k.new.marks) (have-marks p.laid.0.numbered _ p.laid.1.for-sets (omega (arith, q.room.for-marks, length-drop c.place-from.result c.loop-r.marks, length-drop c.place-from.result k.new.marks, k.auto.marks)), p.laid.0.numbered.stretched.long-ends, p.laid.0.numbered.stretched.rise)
 
 pub overflow_add-rows : goal.overflow_add-rows
 overflow_add-rows c =
@@ -99,7 +99,7 @@ overflow_add-rows c =
     let l = c.loop-r in
     let k = c.derive_at-m in
     let t = k.ensures.0.whole (omega (arith, c.if-room-d.false)) in
-    let y = rows-counted p.0 t _ _ (rw (part-is c.place-from.result k.new.1.1.1.1.1.1.1.1.0) at c.count_rows-rows.ensures) in
+    let y = rows-counted p.0 t _ _ (rw (part-is c.place-from.result k.new.marks) at c.count_rows-rows.ensures) in
     let b = l.invariant.counts in omega (arith, b.few-rows, b.within, b.few-roles, y.few)
 
 pub overflow_mul-d-in-loop-r-2 : goal.overflow_mul-d-in-loop-r-2
@@ -114,7 +114,7 @@ overflow_mul-rows c =
     let l = c.loop-r in
     let k = c.derive_at-m in
     let t = k.ensures.0.whole (omega (arith, c.if-room-d.false)) in
-    let y = rows-counted p.0 t _ _ (rw (part-is c.place-from.result k.new.1.1.1.1.1.1.1.1.0) at c.count_rows-rows.ensures) in
+    let y = rows-counted p.0 t _ _ (rw (part-is c.place-from.result k.new.marks) at c.count_rows-rows.ensures) in
     let b = l.invariant.counts in omega (arith, b.few-rows, b.within, b.few-roles, y.few)
 
 pub overflow_add-d-in-loop-r-4 : goal.overflow_add-d-in-loop-r-4
@@ -123,20 +123,20 @@ overflow_add-d-in-loop-r-4 c =
     let l = c.loop-r in
     let k = c.derive_at-m in
     let t = k.ensures.0.whole (omega (arith, c.if-room-d.false)) in
-    let y = rows-counted p.0 t _ _ (rw (part-is c.place-from.result k.new.1.1.1.1.1.1.1.1.0) at c.count_rows-rows.ensures) in
+    let y = rows-counted p.0 t _ _ (rw (part-is c.place-from.result k.new.marks) at c.count_rows-rows.ensures) in
     let b = l.invariant.counts in omega (arith, b.few, b.few-rows, b.within, b.few-roles, p.1.few, k.ensures.0.few, y.few)
 
 pub shape_of-found-then-room-d-2 : goal.shape_of-found-then-room-d-2
 shape_of-found-then-room-d-2 c = simp length-set c.loop-r.invariant.found-long
 
 pub shape_of-pairs-then-room-d-2 : goal.shape_of-pairs-then-room-d-2
-shape_of-pairs-then-room-d-2 c = c.derive_at-m.auto.1.1.1.1.1.1.0 ∙ c.loop-r.invariant.lent.of-pairs
+shape_of-pairs-then-room-d-2 c = c.derive_at-m.auto.pairs ∙ c.loop-r.invariant.lent.of-pairs
 
 pub shape_of-marks-then-room-d-2 : goal.shape_of-marks-then-room-d-2
-shape_of-marks-then-room-d-2 c = c.derive_at-m.auto.1.1.1.1.1.1.1.1.0 ∙ c.loop-r.invariant.lent.of-marks
+shape_of-marks-then-room-d-2 c = c.derive_at-m.auto.marks ∙ c.loop-r.invariant.lent.of-marks
 
 pub shape_of-links-then-room-d-2 : goal.shape_of-links-then-room-d-2
-shape_of-links-then-room-d-2 c = c.derive_at-m.auto.1.1.1.1.1.1.1.1.1.1.0 ∙ c.loop-r.invariant.lent.of-links
+shape_of-links-then-room-d-2 c = c.derive_at-m.auto.links ∙ c.loop-r.invariant.lent.of-links
 
 pub returns-then-room-d-2 : goal.returns-then-room-d-2
 returns-then-room-d-2 c =
@@ -144,7 +144,7 @@ returns-then-room-d-2 c =
     let l = c.loop-r in
     let k = c.derive_at-m in
     let t = k.ensures.0.whole (omega (arith, c.if-room-d.false)) in
-    let y = rows-counted p.0 t _ _ (rw (part-is c.place-from.result k.new.1.1.1.1.1.1.1.1.0) at c.count_rows-rows.ensures) in
+    let y = rows-counted p.0 t _ _ (rw (part-is c.place-from.result k.new.marks) at c.count_rows-rows.ensures) in
     (counted_stop _ _ _ l.d l.rows l.r l.invariant.counts _ k.result _ _ c.loop-r-test.true p.1.few t y _ c.if-room-d-2.true, λ e z. absurd (omega (arith, c.if-room-d-2.true)))
 
 pub overflow_add-r : goal.overflow_add-r
@@ -159,8 +159,8 @@ loop-r-preserved c =
     let l = c.loop-r in
     let k = c.derive_at-m in
     let t = k.ensures.0.whole (omega (arith, c.if-room-d.false)) in
-    let y = rows-counted p.0 t _ _ (rw (part-is c.place-from.result k.new.1.1.1.1.1.1.1.1.0) at c.count_rows-rows.ensures) in
-    counting-next l.invariant c.loop-r-test.true c.place-at.ensures c.place-from.ensures k.result _ _ (masks-few _ _ _ p.0.numbered.sets-are p.1.for-sets) p.1.few c.requires.located.3 k.auto.1.1.1.1.1.1.0 k.auto.1.1.1.1.1.1.1.1.0 k.auto.1.1.1.1.1.1.1.1.1.1.0 k.ensures.1 k.ensures.2 t y (omega (arith, c.if-room-d-2.false))
+    let y = rows-counted p.0 t _ _ (rw (part-is c.place-from.result k.new.marks) at c.count_rows-rows.ensures) in
+    counting-next l.invariant c.loop-r-test.true c.place-at.ensures c.place-from.ensures k.result _ _ (masks-few _ _ _ p.0.numbered.sets-are p.1.for-sets) p.1.few c.requires.located.3 k.auto.pairs k.auto.marks k.auto.links k.ensures.1 k.ensures.2 t y (omega (arith, c.if-room-d-2.false))
 
 pub shape_of-found : goal.shape_of-found
 shape_of-found c = c.loop-r.invariant.found-long

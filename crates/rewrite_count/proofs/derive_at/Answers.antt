@@ -12,8 +12,8 @@ returns c =
     let a = c.args in
     let p = c.requires in
     let k = c.derive_role in
-    let x = k.new.1.1.1.1.1.1.0 in
-    let y = k.new.1.1.1.1.1.1.1.0 in (
+    let x = k.new.pairs in
+    let y = k.new.marks in (
       rw (back-drop a.at a.pairs.now x p.located.2, back-drop a.from a.marks.now y p.located.3) k.ensures,
       back-take a.at a.pairs.now x p.located.2,
       back-take a.from a.marks.now y p.located.3,

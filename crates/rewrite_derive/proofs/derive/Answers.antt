@@ -29,7 +29,7 @@ pub bounds-marks-0 : goal.bounds-marks-0
 bounds-marks-0 c = omega (arith, c.requires.1.for-marks)
 
 pub loop-i-init : goal.loop-i-init
-loop-i-init c = going_start _ c.requires.1 (c.clear.ensures _ _ _) c.clear.auto.0
+loop-i-init c = going_start _ c.requires.1 (c.clear.ensures _ _ _) c.clear.auto.links
 
 pub shape_of-pairs-then-limit-d : goal.shape_of-pairs-then-limit-d
 shape_of-pairs-then-limit-d c = c.loop-i.invariant.long-pairs
@@ -38,7 +38,7 @@ pub shape_of-marks-then-limit-d : goal.shape_of-marks-then-limit-d
 shape_of-marks-then-limit-d c = c.loop-i.invariant.long-marks ∙ length-set {A = ℕ} c.args.marks.now 0 0
 
 pub shape_of-links-then-limit-d : goal.shape_of-links-then-limit-d
-shape_of-links-then-limit-d c = c.loop-i.invariant.long-links ∙ c.clear.auto.0
+shape_of-links-then-limit-d c = c.loop-i.invariant.long-links ∙ c.clear.auto.links
 
 pub returns-then-limit-d : goal.returns-then-limit-d
 returns-then-limit-d c = let g = c.loop-i.invariant in deriving-to g.so_far g.room.for-sets c.args.limit (λ h. absurd (omega (arith, c.if-limit-d.true)))
@@ -49,16 +49,14 @@ mask_at-requires c = omega (arith, c.loop-i.invariant.room.for-sets, c.loop-i-te
 pub next_mark-k-requires : goal.next_mark-k-requires
 next_mark-k-requires c =
     let g = c.loop-i.invariant in
-    let z = going-room g c.loop-i-test.true in (
-      (z.0, z.1, z.2, z.3, z.4, omega (arith, c.requires.0)),
-      (
-        (
-          record { used-are = c.used_in-user_slots.ensures; tabled = c.fill-user_groups.ensures; all_are = c.union_in-a.ensures ∙ ap (λ (m : ℕ). union_of c.args.role.users m 33) c.used_in-user_slots.ensures },
-          record { used-are = c.used_in-permission_slots.ensures; tabled = c.fill-permission_groups.ensures; all_are = c.union_in-b.ensures ∙ ap (λ (m : ℕ). union_of c.args.role.permissions m 33) c.used_in-permission_slots.ensures },
-        ),
-        (g.indexed, g.settled, g.small),
-      ),
-    )
+    let z = going-room g c.loop-i-test.true in record {
+      d_in_bounds = (z.0, z.1, z.2, z.3, z.4, omega (arith, c.requires.0));
+      ready = (
+        record { used-are = c.used_in-user_slots.ensures; tabled = c.fill-user_groups.ensures; all_are = c.union_in-a.ensures ∙ ap (λ (m : ℕ). union_of c.args.role.users m 33) c.used_in-user_slots.ensures },
+        record { used-are = c.used_in-permission_slots.ensures; tabled = c.fill-permission_groups.ensures; all_are = c.union_in-b.ensures ∙ ap (λ (m : ℕ). union_of c.args.role.permissions m 33) c.used_in-permission_slots.ensures },
+      );
+      indexed = (g.indexed, g.settled, g.small);
+    }
 
 pub overflow_cast-marks : goal.overflow_cast-marks
 overflow_cast-marks c = omega (arith, c.next_mark-k.ensures.0.small, c.next_mark-k.ensures.0.most, (going-room c.loop-i.invariant c.loop-i-test.true).2)
@@ -87,7 +85,7 @@ loop-i-preserved c =
     let en : named ≡ insert (union (used_in r.users) (used_in r.permissions)) r.on
     = c.with-named.ensures ∙ ap (λ (x : ℕ). insert x r.on) (c.either.ensures ∙ ap₂ union c.used_in-user_slots.ensures c.used_in-permission_slots.ensures) in
     let e = ap (kept_by r) (c.both-m.ensures ∙ ap (λ (x : ℕ). intersection x named) c.mask_at.ensures) ∙ named-same r.source r.on r.users r.permissions named en c.requires.0 _ in
-    going-turn g _ _ _ k.result c.loop-i-test.true e k.ensures.0 k.ensures.1 k.auto.1.1.1.1.1.1.1.1.1.1.0 k.auto.1.1.1.1.1.1.1.1.1.1.1.0
+    going-turn g _ _ _ k.result c.loop-i-test.true e k.ensures.0 k.ensures.1 k.auto.pairs k.auto.links
 
 pub shape_of-pairs : goal.shape_of-pairs
 shape_of-pairs c = c.loop-i.invariant.long-pairs
@@ -96,7 +94,7 @@ pub shape_of-marks : goal.shape_of-marks
 shape_of-marks c = c.loop-i.invariant.long-marks ∙ length-set {A = ℕ} c.args.marks.now 0 0
 
 pub shape_of-links : goal.shape_of-links
-shape_of-links c = c.loop-i.invariant.long-links ∙ c.clear.auto.0
+shape_of-links c = c.loop-i.invariant.long-links ∙ c.clear.auto.links
 
 pub returns : goal.returns
 returns c = let g = c.loop-i.invariant in deriving-to g.so_far g.room.for-sets c.args.limit (λ h. c.loop-i-test.false)

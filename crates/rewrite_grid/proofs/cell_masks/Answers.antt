@@ -17,7 +17,7 @@ pub fill_record-requires : goal.fill_record-requires
 fill_record-requires c =
     let p = c.requires in
     let w = c.loop-k.invariant in
-    (p.0, omega (arith, c.loop-k-test.true, p.2), w.0.here, p.3, omega (arith, p.4, w.2, c.clear.auto.0), p.5)
+    (p.0, omega (arith, c.loop-k-test.true, p.2), w.0.here, p.3, omega (arith, p.4, w.2, c.clear.auto.sets), p.5)
 
 pub next_record-at-requires : goal.next_record-at-requires
 next_record-at-requires c = walk-within c.loop-k.invariant.0 c.requires.0 c.requires.2 c.loop-k-test.true
@@ -30,11 +30,11 @@ loop-k-preserved c =
     let f = c.fill_record in (
       passed-more w.0 l c.next_record-at.ensures,
       in-cells-more _ _ _ (omega (arith, l, p.2, few-hours _ p.0)) w.0.here w.1 f.ensures,
-      f.auto.1.1.1.1.1.0 ∙ w.2,
+      f.auto.sets ∙ w.2,
     )
 
 pub shape_of-pairs : goal.shape_of-pairs
-shape_of-pairs c = c.loop-k.invariant.2 ∙ c.clear.auto.0
+shape_of-pairs c = c.loop-k.invariant.2 ∙ c.clear.auto.sets
 
 pub returns : goal.returns
 returns c = rw (← (passed-end c.loop-k.invariant.0 c.loop-k-test.false)) c.loop-k.invariant.1

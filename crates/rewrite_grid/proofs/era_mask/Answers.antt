@@ -2,10 +2,10 @@
 use Prim.Native.Nat.{◌-◌}
 use native.Mathlib.Omega.{arith}
 use mathlib.Core.Path.{◌∙◌}
-use mathlib.Core.Logic.{⊎_elim}
 use Rattle.hours_reader.proofs.WalkLaws.{gather_none, gather-in, gather-out, gather-all}
 use Rattle.rewrite_cuts.proofs.RecordLaws.{walk-within, few-hours}
 use Rattle.rewrite_grid.proofs.era_mask.Goals as goal
+use Rattle.rewrite_grid.proofs.era_mask.Goals.{then-dates_hold, else-dates_hold}
 
 pub loop-k-init : goal.loop-k-init
 loop-k-init c = rw c.requires.1 (gather_none _ _ _ _)
@@ -25,10 +25,10 @@ next_record-at-requires c = walk-within c.loop-k.invariant.passed c.requires.0 c
 pub loop-k-preserved : goal.loop-k-preserved
 loop-k-preserved c = let w = c.loop-k.invariant in
     let top = few-hours _ c.requires.0 in
-    ⊎_elim
-    (λ v. gather-in _ _ _ _ w c.loop-k-test.true (omega arith) c.dates_hold.ensures c.next_record-at.ensures v.0.taken (v.2 ∙ v.1.ensures))
-    (λ v. gather-out _ _ _ _ w c.loop-k-test.true (omega arith) c.dates_hold.ensures c.next_record-at.ensures v.0.left v.1)
-    c.if-dates_hold.branch
+    elim c.if-dates_hold.branch [
+      | then-dates_hold v ↦ gather-in _ _ _ _ w c.loop-k-test.true (omega arith) c.dates_hold.ensures c.next_record-at.ensures v.if-dates_hold.true (v.set-is ∙ v.with-set.ensures)
+      | else-dates_hold v ↦ gather-out _ _ _ _ w c.loop-k-test.true (omega arith) c.dates_hold.ensures c.next_record-at.ensures v.if-dates_hold.false v.set-is
+    ]
 
 pub returns : goal.returns
 returns c = gather-all _ _ _ _ c.loop-k.invariant c.loop-k-test.false

@@ -1,10 +1,10 @@
 -- The cells so far are done.
 use Prim.Native.Nat.{◌-◌}
-use mathlib.Core.Logic.{⊎_elim}
 use native.Mathlib.Nat.{le_refl}
 use native.Mathlib.Omega.{arith}
 use Rattle.rewrite_grid.proofs.JoinLaws.{fill_start, fill-in, fill-out, fill_stop, fill-all, fill-behind}
 use Rattle.rewrite_grid.proofs.fill_pair.Goals as goal
+use Rattle.rewrite_grid.proofs.fill_pair.Goals.{then-o-x, else-o-x}
 
 pub loop-j-init : goal.loop-j-init
 loop-j-init c = let p = c.requires in fill_start _ _ _ _ _ _ _ p.4 p.3 p.5
@@ -40,10 +40,10 @@ pub loop-j-preserved : goal.loop-j-preserved
 loop-j-preserved c = let w = c.loop-j.invariant in
     let p = c.requires in
     let l = c.loop-j-test.true in
-    ⊎_elim
-    (λ v. rw v.3 (fill-in w l c.if-e-x.false p.1 v.0.taken _ v.2.ensures))
-    (λ v. rw v.1 (fill-out w l c.if-e-x.false v.0.left))
-    c.if-o-x.branch
+    elim c.if-o-x.branch [
+      | then-o-x v ↦ rw v.sets-is (fill-in w l c.if-e-x.false p.1 v.if-o-x.true _ v.with.ensures)
+      | else-o-x v ↦ rw v.sets-is (fill-out w l c.if-e-x.false v.if-o-x.false)
+    ]
 
 pub shape_of-sets : goal.shape_of-sets
 shape_of-sets c = c.loop-j.invariant.long

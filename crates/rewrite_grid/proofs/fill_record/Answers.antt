@@ -60,7 +60,7 @@ fill_pair-from-requires c =
 pub loop-q-preserved : goal.loop-q-preserved
 loop-q-preserved c =
     let f = c.fill_pair-from in
-    pair-more c.loop-q.invariant _ _ c.read16-offset.ensures c.read16.ensures (omega (arith, c.loop-q-test.true, c.read16-count.ensures)) f.auto.1.1.1.1.1.1.0 f.ensures
+    pair-more c.loop-q.invariant _ _ c.read16-offset.ensures c.read16.ensures (omega (arith, c.loop-q-test.true, c.read16-count.ensures)) f.auto.sets f.ensures
 
 pub shape_of-sets : goal.shape_of-sets
 shape_of-sets c = c.loop-q.invariant.long

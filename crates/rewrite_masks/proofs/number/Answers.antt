@@ -26,7 +26,7 @@ number_all-requires c =
           era-cuts = d.era-cuts;
           cell_cuts = d.cell_cuts;
           in_cells = m.ensures;
-          pairs-long = omega (arith, p.located.2, m.auto.1.1.1.1.1.0);
+          pairs-long = omega (arith, p.located.2, m.auto.pairs);
         },
         p.located.3,
       );
@@ -37,7 +37,7 @@ number_all-requires c =
           for-lens = r.for-lens;
           for-ends = r.for-ends;
           for-sets = r.for-sets;
-          for-links = omega (arith, r.for-links, c.clear.auto.0);
+          for-links = omega (arith, r.for-links, c.clear.auto.links);
           some = r.some;
           most = r.most;
         },
@@ -46,25 +46,25 @@ number_all-requires c =
     }
 
 pub shape_of-held : goal.shape_of-held
-shape_of-held c = c.cell_masks.auto.1.1.1.1.1.0
+shape_of-held c = c.cell_masks.auto.pairs
 
 pub shape_of-row : goal.shape_of-row
-shape_of-row c = c.number_all.auto.1.1.1.1.1.1.1.1.1.0
+shape_of-row c = c.number_all.auto.row
 
 pub shape_of-kinds : goal.shape_of-kinds
-shape_of-kinds c = c.number_all.auto.1.1.1.1.1.1.1.1.1.1.0
+shape_of-kinds c = c.number_all.auto.kinds
 
 pub shape_of-lens : goal.shape_of-lens
-shape_of-lens c = c.number_all.auto.1.1.1.1.1.1.1.1.1.1.1.0
+shape_of-lens c = c.number_all.auto.lens
 
 pub shape_of-ends : goal.shape_of-ends
-shape_of-ends c = c.number_all.auto.1.1.1.1.1.1.1.1.1.1.1.1.0
+shape_of-ends c = c.number_all.auto.ends
 
 pub shape_of-sets : goal.shape_of-sets
-shape_of-sets c = c.number_all.auto.1.1.1.1.1.1.1.1.1.1.1.1.1.0
+shape_of-sets c = c.number_all.auto.sets
 
 pub shape_of-links : goal.shape_of-links
-shape_of-links c = c.number_all.auto.1.1.1.1.1.1.1.1.1.1.1.1.1.1.0 ∙ c.clear.auto.0
+shape_of-links c = c.number_all.auto.links ∙ c.clear.auto.links
 
 pub returns : goal.returns
 returns c = c.number_all.ensures

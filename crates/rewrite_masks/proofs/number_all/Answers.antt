@@ -56,13 +56,13 @@ number_row-r-requires c =
     let p = c.requires in
     let l = c.loop-i in
     let g = l.invariant.1 in
-    record { row_room = row_room l.invariant.0 a.row.now a.kinds.now a.lens.now a.ends.now a.sets.now a.links.now _ c.loop-i-test.true p.ready.1 p.room.0 (record { of_row = c.era_masks.auto.1.1.1.1.1.1.1.0 ∙ g.of_row; of-kinds = g.of-kinds; of-lens = g.of-lens; of-ends = g.of-ends; of-sets = g.of-sets; of-links = g.of-links }); held = (l.invariant.0.held, row_told p.ready.0 _ _ _ c.era_mask-dates.ensures c.era_masks.ensures) }
+    record { row_room = row_room l.invariant.0 a.row.now a.kinds.now a.lens.now a.ends.now a.sets.now a.links.now _ c.loop-i-test.true p.ready.1 p.room.0 (record { of_row = c.era_masks.auto.masks ∙ g.of_row; of-kinds = g.of-kinds; of-lens = g.of-lens; of-ends = g.of-ends; of-sets = g.of-sets; of-links = g.of-links }); held = (l.invariant.0.held, row_told p.ready.0 _ _ _ c.era_mask-dates.ensures c.era_masks.ensures) }
 
 pub overflow_add-i : goal.overflow_add-i
 overflow_add-i c = omega (arith, c.loop-i-test.true, c.ranges.ne.fits)
 
 pub offset_bounds-ends-i : goal.offset_bounds-ends-i
-offset_bounds-ends-i c = omega (arith, c.well-formed.1.1.1.1.1.1.1.1.1.1.1.1.0.1, c.loop-i-test.true, c.loop-i.invariant.1.of-ends, length-set c.args.ends.now 0 0, c.requires.room.0.for-ends)
+offset_bounds-ends-i c = omega (arith, c.well_formed.1.1.1.1.1.1.1.1.1.1.1.1.0.1, c.loop-i-test.true, c.loop-i.invariant.1.of-ends, length-set c.args.ends.now 0 0, c.requires.room.0.for-ends)
 
 pub bounds-ends-i : goal.bounds-ends-i
 bounds-ends-i c = omega (arith, c.loop-i-test.true, c.loop-i.invariant.1.of-ends, length-set c.args.ends.now 0 0, c.requires.room.0.for-ends)
@@ -80,15 +80,15 @@ loop-i-preserved c =
     let n = c.number_row-r in
     let m = n.ensures.0.most in (
       passed-more l.invariant.0 p.ready.0 _ _ _ _ _ n.result.end n.result.masks t c.era_mask-dates.ensures c.era_masks.ensures n.ensures.0 n.ensures.1 n.ensures.2 n.ensures.3
-          (end-room l.invariant.0 t m r.for-kinds g.of-kinds n.auto.1.1.0) (end-room l.invariant.0 t m r.for-lens g.of-lens n.auto.1.1.1.0)
+          (end-room l.invariant.0 t m r.for-kinds g.of-kinds n.auto.kinds) (end-room l.invariant.0 t m r.for-lens g.of-lens n.auto.lens)
           (omega (arith, g.of-ends, length-set c.args.ends.now 0 0, r.for-ends)),
       record {
-        of_row = c.era_masks.auto.1.1.1.1.1.1.1.0 ∙ g.of_row;
-        of-kinds = n.auto.1.1.0 ∙ g.of-kinds;
-        of-lens = n.auto.1.1.1.0 ∙ g.of-lens;
+        of_row = c.era_masks.auto.masks ∙ g.of_row;
+        of-kinds = n.auto.kinds ∙ g.of-kinds;
+        of-lens = n.auto.lens ∙ g.of-lens;
         of-ends = length-set l.ends _ _ ∙ g.of-ends;
-        of-sets = n.auto.1.1.1.1.1.0 ∙ g.of-sets;
-        of-links = n.auto.1.1.1.1.1.1.0 ∙ g.of-links;
+        of-sets = n.auto.sets ∙ g.of-sets;
+        of-links = n.auto.links ∙ g.of-links;
       },
     )
 

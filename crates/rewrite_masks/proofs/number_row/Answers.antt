@@ -47,7 +47,7 @@ loop-c-preserved c =
     let l = c.loop-c in
     let t = c.stretch-l in
     let k = c.kind_of-k in
-    numbering-turn l.invariant c.requires.row_room _ _ t.result k.result c.loop-c-test.true t.ensures.0 t.ensures.2 t.ensures.3 k.ensures.0 k.ensures.1 k.auto.1.0 k.auto.1.1.0
+    numbering-turn l.invariant c.requires.row_room _ _ t.result k.result c.loop-c-test.true t.ensures.0 t.ensures.2 t.ensures.3 k.ensures.0 k.ensures.1 k.auto.sets k.auto.links
 
 pub shape_of-kinds : goal.shape_of-kinds
 shape_of-kinds c = c.loop-c.invariant.long-kinds

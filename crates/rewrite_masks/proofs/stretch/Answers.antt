@@ -1,8 +1,8 @@
 use native.Mathlib.Omega.{arith}
 use Prim.Native.Nat.{◌-◌}
-use mathlib.Core.Logic.{⊎_elim}
 use Rattle.rewrite_masks.proofs.RowLaws.{alike-one, alike-more}
 use Rattle.rewrite_masks.proofs.stretch.Goals as goal
+use Rattle.rewrite_masks.proofs.stretch.Goals.{then-most-gt255, else-most-gt255}
 
 pub offset_bounds-row-c : goal.offset_bounds-row-c
 offset_bounds-row-c c = omega arith
@@ -15,12 +15,11 @@ overflow_sub-most c = omega arith
 
 pub loop-l-init : goal.loop-l-init
 loop-l-init c =
-    let a = c.args in
-    let w = c.if-most-gt255.branch in (
+    let a = c.args in (
       omega arith,
-      ⊎_elim (λ w. omega arith) (λ w. omega arith) w,
-      ⊎_elim (λ w. omega arith) (λ w. omega arith) w,
-      ⊎_elim (λ w. omega arith) (λ w. omega arith) w,
+      elim c.if-most-gt255.branch [ then-most-gt255 w ↦ omega arith | else-most-gt255 w ↦ omega arith ],
+      elim c.if-most-gt255.branch [ then-most-gt255 w ↦ omega arith | else-most-gt255 w ↦ omega arith ],
+      elim c.if-most-gt255.branch [ then-most-gt255 w ↦ omega arith | else-most-gt255 w ↦ omega arith ],
       alike-one a.row.now a.c (omega arith),
     )
 

@@ -21,14 +21,14 @@ put_table-requires c =
     let a = c.args in
     let p = c.requires in
     let k = c.count_all-k in
-    let kp = k.auto.1.1.1.1.1.1.1.1.1.1.1.1.0 in
-    let km = k.auto.1.1.1.1.1.1.1.1.1.1.1.1.1.0 in record {
+    let kp = k.auto.pairs in
+    let km = k.auto.marks in record {
       located = (p.located.0, p.located.1, p.located.2, counted-within (omega (arith, p.located.4)) k.ensures.0);
       parted = (
         p.located.3,
         p.numbered.0,
-        room-kept p.numbered.1 kp km k.auto.1.1.1.1.1.1.1.1.1.1.1.1.1.1.0,
-        omega (arith, roles-are a.s.now a.l p.located.0, p.located.2, k.auto.1.1.1.1.1.1.1.1.1.1.1.0),
+        room-kept p.numbered.1 kp km k.auto.links,
+        omega (arith, roles-are a.s.now a.l p.located.0, p.located.2, k.auto.found),
         λ e. (keep-room kp km (c.all_fit-keep.ensures e), λ h. k.ensures.1 e (omega (arith, h, p.located.4))),
       );
     }

@@ -2,13 +2,13 @@
 use Rattle.rewrite_role.proofs.SlotLaws.{slot_at}
 use native.Mathlib.Omega.{arith}
 use mathlib.Core.Path.{◌≡◌, ap, ◌∙◌}
-use mathlib.Core.Logic.{⊎_elim}
 use Prim.Native.Nat.{ℕ, ◌-◌}
 use Rattle.rewrite_sets.specs.Role.{by_slot}
 use Rattle.rota.specs.Believed.RotaBytes.{row_at}
 use Rattle.ground.specs.Believed.Sequence.{list_of}
 use Rattle.rewrite_role.proofs.SlotLaws.{slots-none, slots-in, slots-out}
 use Rattle.rewrite_role.proofs.by_slot.Goals as goal
+use Rattle.rewrite_role.proofs.by_slot.Goals.{then-s-p, else-s-p}
 
 pub loop-i-init : goal.loop-i-init
 loop-i-init c = (omega arith, slots-none _ _)
@@ -70,9 +70,12 @@ loop-i-smaller c = omega arith
 pub loop-i-preserved : goal.loop-i-preserved
 loop-i-preserved c = let a = c.args in let l = c.loop-i in (
   omega arith,
-  ⊎_elim (λ w. let h = slot_at a.s.now a.at a.n c.requires l.i c.loop-i-test.true _ _ w.2.ensures w.3.ensures in
-      slots-in (row_at a.s.now a.at) l.i a.role l.sets l.invariant.1 _ _ _ w.0.taken h.0 h.1 w.5.ensures w.6)
-      (λ w. slots-out (row_at a.s.now a.at) l.i a.role l.sets l.invariant.1 _ w.0.left w.1) c.if-s-p.branch,
+  elim c.if-s-p.branch [
+    | then-s-p w ↦
+        let h = slot_at a.s.now a.at a.n c.requires l.i c.loop-i-test.true _ _ w.decode.ensures w.slot-k.ensures in
+        slots-in (row_at a.s.now a.at) l.i a.role l.sets l.invariant.1 _ _ _ w.if-s-p.true h.0 h.1 w.with.ensures w.sets-is
+    | else-s-p w ↦ slots-out (row_at a.s.now a.at) l.i a.role l.sets l.invariant.1 _ w.if-s-p.false w.sets-is
+  ],
 )
 
 pub returns : goal.returns

@@ -36,7 +36,7 @@ count_era-rows-requires c = let a = c.args in let p = c.requires in let l = c.lo
 
 pub overflow_add-rows : goal.overflow_add-rows
 overflow_add-rows c = let a = c.args in let p = c.requires in let l = c.loop-e in
-    omega (arith, (counting-turn p.2 l.invariant (omega (arith, p.0.long, marks-long a.marks.now a.kinds.now)) c.loop-e-test.true _ c.count_era-rows.ensures).few, c.shared_slice_known-in-loop-e-2-1.given (l.e + 1))
+    omega (arith, (counting-turn p.2 l.invariant (omega (arith, p.0.long, marks-long a.marks.now a.kinds.now)) c.loop-e-test.true _ c.count_era-rows.ensures).few, c.type_inv.ends (l.e + 1))
 
 pub overflow_add-e-in-loop-e : goal.overflow_add-e-in-loop-e
 overflow_add-e-in-loop-e c = omega arith

@@ -1,11 +1,11 @@
 -- A run of cells with one mark goes on over a stretch, or ends before it.
 use native.Mathlib.Omega.{arith}
-use mathlib.Core.Logic.{⊎_elim}
 use mathlib.Core.Path.{◌∙◌}
 use Prim.Native.Nat.{◌-◌}
 use Rattle.rewrite_rows.proofs.FieldLaws.{last-room, last-from, last_written}
 use Rattle.rewrite_rows.proofs.EraLaws.{era-begun, stretch-within, stretch-kept, stretch-room, stretch-written, era-full}
 use Rattle.rewrite_rows.proofs.write_era.Goals as goal
+use Rattle.rewrite_rows.proofs.write_era.Goals.{then-m-run, else-m-run}
 
 pub bounds-cells-0 : goal.bounds-cells-0
 bounds-cells-0 c = omega (arith, c.requires.have_marks.2.long)
@@ -40,7 +40,7 @@ pub bounds-lens-j : goal.bounds-lens-j
 bounds-lens-j c = omega (arith, c.loop-j-test.true, c.requires.have_marks.1.long)
 
 pub overflow_cast-c : goal.overflow_cast-c
-overflow_cast-c c = omega (arith, c.shared_slice_known-in-loop-j-1.given c.loop-j.j)
+overflow_cast-c c = omega (arith, c.type_inv.lens c.loop-j.j)
 
 pub overflow_add-c : goal.overflow_add-c
 overflow_add-c c = let p = c.requires in omega (arith, stretch-within p.have_marks.0 p.have_marks.1 p.have_marks.2 c.loop-j.invariant c.loop-j-test.true, p.have_marks.2.long)
@@ -53,10 +53,10 @@ loop-j-smaller c = omega arith
 
 pub loop-j-preserved : goal.loop-j-preserved
 loop-j-preserved c = let p = c.requires in let l = c.loop-j in let h = c.loop-j-test.true in let m = c.mark_of-m.ensures in
-    ⊎_elim
-    (λ w. stretch-written p.have_marks.0 p.have_marks.1 p.have_marks.2 l.invariant h (λ z. omega (arith, z, w.0.taken, m)) _ _ _ _ (w.7 ∙ w.3.ensures.0) (w.8 ∙ w.3.ensures.1) (w.9 ∙ m) w.10)
-    (λ w. stretch-kept p.have_marks.0 p.have_marks.1 p.have_marks.2 l.invariant h (omega (arith, w.0.left, m)) _ _ _ _ w.1 w.2 w.3 w.4)
-    c.if-m-run.branch
+    elim c.if-m-run.branch [
+      | then-m-run w ↦ stretch-written p.have_marks.0 p.have_marks.1 p.have_marks.2 l.invariant h (λ z. omega (arith, z, w.if-m-run.true, m)) _ _ _ _ (w.out-is ∙ w.write_marked-p.ensures.0) (w.p-is ∙ w.write_marked-p.ensures.1) (w.run-is ∙ m) w.low-is
+      | else-m-run w ↦ stretch-kept p.have_marks.0 p.have_marks.1 p.have_marks.2 l.invariant h (omega (arith, w.if-m-run.false, m)) _ _ _ _ w.out-is w.p-is w.run-is w.low-is
+    ]
 
 pub offset_bounds-cells-nc : goal.offset_bounds-cells-nc
 offset_bounds-cells-nc c = omega arith
@@ -73,7 +73,7 @@ write_marked-requires c = let a = c.args in let p = c.requires in let l = c.loop
 )
 
 pub shape_of-out : goal.shape_of-out
-shape_of-out c = c.write_marked.auto.0 ∙ c.loop-j.invariant.run.left.long
+shape_of-out c = c.write_marked.auto.out ∙ c.loop-j.invariant.run.left.long
 
 pub returns : goal.returns
 returns c = let p = c.requires in let l = c.loop-j in

@@ -10,7 +10,7 @@ pub returns-then-p-eq0 : goal.returns-then-p-eq0
 returns-then-p-eq0 c = let a = c.args in (mark-none a.source a.d a.pairs.now _ (no-permissions a.source a.x c.if-p-eq0.true), index-none c.requires.indexed.0)
 
 pub enter-requires : goal.enter-requires
-enter-requires c = c.requires
+enter-requires c = record { d_in_bounds = c.requires.d_in_bounds; indexed = c.requires.indexed }
 
 pub overflow_add-result : goal.overflow_add-result
 overflow_add-result c = omega (arith, c.enter.ensures.0.most, c.requires.d_in_bounds.2)

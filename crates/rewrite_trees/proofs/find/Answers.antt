@@ -1,10 +1,10 @@
 -- The walk stands where the turns so far lead; each turn takes a member away, so that there are no more turns than members.
 use Prim.Native.Nat.{◌-◌}
 use native.Mathlib.Omega.{arith}
-use mathlib.Core.Logic.{⊎_elim}
 use lib.ListN.{get_or}
 use Rattle.rewrite_trees.proofs.WalkLaws.{seek-start, hook-below, link-below, seek-end, some_left, side-small, left-falls, seek-on}
 use Rattle.rewrite_trees.proofs.find.Goals as goal
+use Rattle.rewrite_trees.proofs.find.Goals.{then-pairs-k+else-pairs-k-2, else-pairs-k}
 
 pub loop-w-init : goal.loop-w-init
 loop-w-init c = let a = c.args in seek-start a.w a.n a.pairs.now a.links.now a.a a.b a.u a.p c.bucket-hook.result c.requires.n_in_bounds.3 c.bucket-hook.ensures.0
@@ -49,7 +49,7 @@ pub returns-then-pairs-k-2 : goal.returns-then-pairs-k-2
 returns-then-pairs-k-2 c = record { most = omega (arith, link-below c.requires.indexed.0 c.loop-w.invariant); here = λ h. (c.if-pairs-k.true, c.if-pairs-k-2.true); absent = λ e. absurd (omega (arith, link-below c.requires.indexed.0 c.loop-w.invariant, c.if-c-eq0.false)) }
 
 pub next_turn-t-requires : goal.next_turn-t-requires
-next_turn-t-requires c = some_left c.requires.indexed.0 c.loop-w.invariant (get_or c.args.links.now c.loop-w.hook 0 - 1) (omega (arith, c.if-c-eq0.false)) (⊎_elim (λ w. λ eu ep. w.2.left ep) (λ w. λ eu ep. w.left eu) c.if-pairs-k.branch) c.requires.indexed.1 c.requires.indexed.2
+next_turn-t-requires c = some_left c.requires.indexed.0 c.loop-w.invariant (get_or c.args.links.now c.loop-w.hook 0 - 1) (omega (arith, c.if-c-eq0.false)) (elim c.if-pairs-k.branch [ then-pairs-k+else-pairs-k-2 w ↦ λ eu ep. w.if-pairs-k-2.false ep | else-pairs-k w ↦ λ eu ep. w.if-pairs-k.false eu ]) c.requires.indexed.1 c.requires.indexed.2
 
 pub overflow_mul-hook : goal.overflow_mul-hook
 overflow_mul-hook c = omega (arith, link-below c.requires.indexed.0 c.loop-w.invariant, c.requires.n_in_bounds)
@@ -58,10 +58,10 @@ pub overflow_add-hook : goal.overflow_add-hook
 overflow_add-hook c = omega (arith, link-below c.requires.indexed.0 c.loop-w.invariant, c.requires.n_in_bounds)
 
 pub overflow_add-hook-in-loop-w : goal.overflow_add-hook-in-loop-w
-overflow_add-hook-in-loop-w c = omega (arith, link-below c.requires.indexed.0 c.loop-w.invariant, c.requires.n_in_bounds, side-small c.requires.indexed.0 c.loop-w.invariant (get_or c.args.links.now c.loop-w.hook 0 - 1) (omega (arith, c.if-c-eq0.false)) (⊎_elim (λ w. λ eu ep. w.2.left ep) (λ w. λ eu ep. w.left eu) c.if-pairs-k.branch) c.next_turn-t.ensures)
+overflow_add-hook-in-loop-w c = omega (arith, link-below c.requires.indexed.0 c.loop-w.invariant, c.requires.n_in_bounds, side-small c.requires.indexed.0 c.loop-w.invariant (get_or c.args.links.now c.loop-w.hook 0 - 1) (omega (arith, c.if-c-eq0.false)) (elim c.if-pairs-k.branch [ then-pairs-k+else-pairs-k-2 w ↦ λ eu ep. w.if-pairs-k-2.false ep | else-pairs-k w ↦ λ eu ep. w.if-pairs-k.false eu ]) c.next_turn-t.ensures)
 
 pub loop-w-smaller : goal.loop-w-smaller
-loop-w-smaller c = omega (arith, left-falls c.requires.indexed.0 c.loop-w.invariant (get_or c.args.links.now c.loop-w.hook 0 - 1) (omega (arith, c.if-c-eq0.false)) (⊎_elim (λ w. λ eu ep. w.2.left ep) (λ w. λ eu ep. w.left eu) c.if-pairs-k.branch) c.next_turn-t.ensures)
+loop-w-smaller c = omega (arith, left-falls c.requires.indexed.0 c.loop-w.invariant (get_or c.args.links.now c.loop-w.hook 0 - 1) (omega (arith, c.if-c-eq0.false)) (elim c.if-pairs-k.branch [ then-pairs-k+else-pairs-k-2 w ↦ λ eu ep. w.if-pairs-k-2.false ep | else-pairs-k w ↦ λ eu ep. w.if-pairs-k.false eu ]) c.next_turn-t.ensures)
 
 pub loop-w-preserved : goal.loop-w-preserved
-loop-w-preserved c = seek-on c.requires.indexed.0 c.loop-w.invariant (get_or c.args.links.now c.loop-w.hook 0 - 1) (omega (arith, c.if-c-eq0.false)) (⊎_elim (λ w. λ eu ep. w.2.left ep) (λ w. λ eu ep. w.left eu) c.if-pairs-k.branch) c.next_turn-t.ensures
+loop-w-preserved c = seek-on c.requires.indexed.0 c.loop-w.invariant (get_or c.args.links.now c.loop-w.hook 0 - 1) (omega (arith, c.if-c-eq0.false)) (elim c.if-pairs-k.branch [ then-pairs-k+else-pairs-k-2 w ↦ λ eu ep. w.if-pairs-k-2.false ep | else-pairs-k w ↦ λ eu ep. w.if-pairs-k.false eu ]) c.next_turn-t.ensures

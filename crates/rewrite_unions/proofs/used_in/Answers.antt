@@ -1,12 +1,12 @@
 -- The slots below k whose sets are not empty are gathered.
 use native.Mathlib.Omega.{arith}
 use mathlib.Core.Path.{refl, ◌∙◌}
-use mathlib.Core.Logic.{⊎_elim}
 use Prim.Native.Nat.{◌-◌}
 use Rattle.bitset.proofs.SetLaws.{set_of-none, turn_in, turn-out}
 use Rattle.rewrite_unions.specs.Union.{in_use}
 use Rattle.rewrite_unions.proofs.UnionLaws.{in-use, not-in-use, used_all}
 use Rattle.rewrite_unions.proofs.used_in.Goals as goal
+use Rattle.rewrite_unions.proofs.used_in.Goals.{then-sets-i-ne0, else-sets-i-ne0}
 
 pub loop-k-init : goal.loop-k-init
 loop-k-init c = (omega arith, set_of-none _)
@@ -33,8 +33,10 @@ pub loop-k-preserved : goal.loop-k-preserved
 loop-k-preserved c = let l = c.loop-k in
     let a = c.args in (
       omega arith,
-      ⊎_elim (λ w. turn_in l.k (in_use a.sets.now) (omega arith) l.used _ _ l.invariant.1 refl (in-use a.sets.now l.k w.0.taken) (w.2 ∙ w.1.ensures))
-          (λ w. turn-out l.k (in_use a.sets.now) (omega arith) l.used _ _ l.invariant.1 refl (not-in-use a.sets.now l.k w.0.left) w.1) c.if-sets-i-ne0.branch,
+      elim c.if-sets-i-ne0.branch [
+        | then-sets-i-ne0 w ↦ turn_in l.k (in_use a.sets.now) (omega arith) l.used _ _ l.invariant.1 refl (in-use a.sets.now l.k w.if-sets-i-ne0.true) (w.used-is ∙ w.with-used.ensures)
+        | else-sets-i-ne0 w ↦ turn-out l.k (in_use a.sets.now) (omega arith) l.used _ _ l.invariant.1 refl (not-in-use a.sets.now l.k w.if-sets-i-ne0.false) w.used-is
+      ],
     )
 
 pub returns : goal.returns

@@ -13,10 +13,10 @@ pub loop-k-init : goal.loop-k-init
 loop-k-init c = (search rules, search rules, least-none _, turns-none _)
 
 pub overflow_mul-i : goal.overflow_mul-i
-overflow_mul-i c = omega (arith, c.requires.0.within, c.well-formed, c.loop-k-test.true)
+overflow_mul-i c = omega (arith, c.requires.0.within, c.well_formed, c.loop-k-test.true)
 
 pub overflow_add-i : goal.overflow_add-i
-overflow_add-i c = omega (arith, c.requires.0.within, c.well-formed, c.loop-k-test.true)
+overflow_add-i c = omega (arith, c.requires.0.within, c.well_formed, c.loop-k-test.true)
 
 pub overflow_cast-top : goal.overflow_cast-top
 overflow_cast-top c = omega (arith, c.requires.0.top-most)
@@ -52,7 +52,7 @@ pub overflow_add-above : goal.overflow_add-above
 overflow_add-above c = omega (arith, c.key_at-key.ensures.1)
 
 pub overflow_add-k : goal.overflow_add-k
-overflow_add-k c = omega (arith, c.loop-k-test.true, c.well-formed)
+overflow_add-k c = omega (arith, c.loop-k-test.true, c.well_formed)
 
 pub loop-k-smaller : goal.loop-k-smaller
 loop-k-smaller c = omega (arith, c.loop-k-test.true)

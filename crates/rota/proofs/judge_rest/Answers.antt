@@ -44,7 +44,7 @@ returns-then-ordered-ne0 c =
     let a = c.args in
     let m = c.requires in
     let r = sym c.judge_roles-role.ensures ∙ c.if-role-ne0.false in
-    by-users a.s.now a.h a.users a.permissions a.roles a.user-rows a.permission-rows a.at m (omega (arith, c.if-s-second.false)) r _ c.judge_ordered-ordered.ensures c.if-ordered-ne0.true
+    by-users a.s.now a.h a.users a.permissions a.roles a.user_rows a.permission_rows a.at m (omega (arith, c.if-s-second.false)) r _ c.judge_ordered-ordered.ensures c.if-ordered-ne0.true
 
 pub judge_ordered-requires : goal.judge_ordered-requires
 judge_ordered-requires c =
@@ -57,7 +57,7 @@ returns-then-read16-eq3 c =
     let a = c.args in
     let m = c.requires in
     let r = sym c.judge_roles-role.ensures ∙ c.if-role-ne0.false in
-    by-permissions a.s.now a.h a.users a.permissions a.roles a.user-rows a.permission-rows a.at m (omega (arith, c.if-s-second.false)) r _ _ c.judge_ordered-ordered.ensures c.if-ordered-ne0.false c.judge_ordered.ensures
+    by-permissions a.s.now a.h a.users a.permissions a.roles a.user_rows a.permission_rows a.at m (omega (arith, c.if-s-second.false)) r _ _ c.judge_ordered-ordered.ensures c.if-ordered-ne0.false c.judge_ordered.ensures
 
 pub judge_rows-user-requires : goal.judge_rows-user-requires
 judge_rows-user-requires c =
@@ -70,7 +70,7 @@ returns-then-user-ne0 c =
     let a = c.args in
     let m = c.requires in
     let r = sym c.judge_roles-role.ensures ∙ c.if-role-ne0.false in
-    by-users a.s.now a.h a.users a.permissions a.roles a.user-rows a.permission-rows a.at m (omega (arith, c.if-s-second.false)) r _ c.judge_rows-user.ensures c.if-user-ne0.true
+    by-users a.s.now a.h a.users a.permissions a.roles a.user_rows a.permission_rows a.at m (omega (arith, c.if-s-second.false)) r _ c.judge_rows-user.ensures c.if-user-ne0.true
 
 pub judge_rows-requires : goal.judge_rows-requires
 judge_rows-requires c =
@@ -83,4 +83,4 @@ returns c =
     let a = c.args in
     let m = c.requires in
     let r = sym c.judge_roles-role.ensures ∙ c.if-role-ne0.false in
-    by-permissions a.s.now a.h a.users a.permissions a.roles a.user-rows a.permission-rows a.at m (omega (arith, c.if-s-second.false)) r _ _ c.judge_rows-user.ensures c.if-user-ne0.false c.judge_rows.ensures
+    by-permissions a.s.now a.h a.users a.permissions a.roles a.user_rows a.permission_rows a.at m (omega (arith, c.if-s-second.false)) r _ _ c.judge_rows-user.ensures c.if-user-ne0.false c.judge_rows.ensures

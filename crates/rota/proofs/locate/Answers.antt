@@ -38,13 +38,13 @@ pub overflow_add-first : goal.overflow_add-first
 overflow_add-first c =
     let h = header-fine _ (sym c.judge_header-header.ensures ∙ c.if-header-ne0.false) in
     let n = counts-are _ _ c.read_counts-n.ensures in
-    omega (arith, c.well-formed, h, n, c.judge_all-w.ensures.within)
+    omega (arith, c.well_formed, h, n, c.judge_all-w.ensures.within)
 
 pub overflow_add-result : goal.overflow_add-result
 overflow_add-result c =
     let h = header-fine _ (sym c.judge_header-header.ensures ∙ c.if-header-ne0.false) in
     let n = counts-are _ _ c.read_counts-n.ensures in
-    omega (arith, c.well-formed, h, n, c.judge_all-w.ensures.within)
+    omega (arith, c.well_formed, h, n, c.judge_all-w.ensures.within)
 
 pub returns : goal.returns
 returns c =

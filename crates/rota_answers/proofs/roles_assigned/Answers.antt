@@ -6,10 +6,10 @@ use Rattle.rota.specs.Believed.RotaBytes.{roles_of}
 use Rattle.bitset.proofs.GatherLaws.{gather_none, gather-in, gather-out}
 use native.Mathlib.Nat.{le_antisymm}
 use native.Mathlib.Omega.{arith}
-use mathlib.Core.Logic.{⊎_elim}
 use mathlib.Core.Path.{◌∙◌}
 use Prim.Native.Nat.{◌-◌}
 use Rattle.rota_answers.proofs.roles_assigned.Goals as goal
+use Rattle.rota_answers.proofs.roles_assigned.Goals.{then-row_in, else-row_in}
 
 pub loop-k-init : goal.loop-k-init
 unfolding roles_assigned
@@ -40,10 +40,7 @@ pub loop-k-preserved : goal.loop-k-preserved
 unfolding roles_assigned
 loop-k-preserved c = let a = c.args in let p = c.requires in (
   omega arith,
-  ⊎_elim
-      (λ w. gather-in (roles_of a.s.now) (omega (arith, p.3)) (λ i. row_in a.s.now a.set a.at i) (role_at a.s.now a.at) _ _ _ _ _ c.loop-k.invariant.1 c.row_in.ensures c.read8-role.ensures.0 (omega (arith, c.read8-role.ensures.0, (p.0.each _ c.loop-k-test.true).role)) w.0.taken (w.2 ∙ w.1.ensures))
-      (λ w. gather-out (roles_of a.s.now) (omega (arith, p.3)) (λ i. row_in a.s.now a.set a.at i) (role_at a.s.now a.at) _ _ _ _ _ c.loop-k.invariant.1 c.row_in.ensures c.read8-role.ensures.0 w.0.left w.1)
-      c.if-row_in.branch,
+  elim c.if-row_in.branch [ then-row_in w ↦ gather-in (roles_of a.s.now) (omega (arith, p.3)) (λ i. row_in a.s.now a.set a.at i) (role_at a.s.now a.at) _ _ _ _ _ c.loop-k.invariant.1 c.row_in.ensures c.read8-role.ensures.0 (omega (arith, c.read8-role.ensures.0, (p.0.each _ c.loop-k-test.true).role)) w.if-row_in.true (w.given-is ∙ w.with-given.ensures) | else-row_in w ↦ gather-out (roles_of a.s.now) (omega (arith, p.3)) (λ i. row_in a.s.now a.set a.at i) (role_at a.s.now a.at) _ _ _ _ _ c.loop-k.invariant.1 c.row_in.ensures c.read8-role.ensures.0 w.if-row_in.false w.given-is ],
 )
 
 pub returns : goal.returns

@@ -7,10 +7,10 @@ use Rattle.hours.specs.Inside.{ref_in}
 use Rattle.bitset.proofs.SetLaws.{set_of-none, turn_in, turn-out}
 use native.Mathlib.Nat.{le_antisymm}
 use native.Mathlib.Omega.{arith}
-use mathlib.Core.Logic.{⊎_elim}
 use mathlib.Core.Path.{◌∙◌}
 use Prim.Native.Nat.{◌-◌}
 use Rattle.rota_answers.proofs.roles_enabled.Goals as goal
+use Rattle.rota_answers.proofs.roles_enabled.Goals.{then-ref_holds, else-ref_holds}
 
 -- src/lib.rt:307:5
 pub loop-k-init : goal.loop-k-init
@@ -42,10 +42,7 @@ pub loop-k-preserved : goal.loop-k-preserved
 unfolding roles_enabled
 loop-k-preserved c = let p = c.requires in let a = c.args in (
   omega arith,
-  ⊎_elim
-      (λ w. turn_in c.loop-k.k (λ r. ref_in a.set (role_ref a.s.now r)) (omega (arith, p.0.few)) _ _ _ c.loop-k.invariant.1 (role-tested _ _ _ p.0 _ _ _ _ c.decode.ensures c.ref_holds.ensures) w.0.taken (w.2 ∙ w.1.ensures))
-      (λ w. turn-out c.loop-k.k (λ r. ref_in a.set (role_ref a.s.now r)) (omega (arith, p.0.few)) _ _ _ c.loop-k.invariant.1 (role-tested _ _ _ p.0 _ _ _ _ c.decode.ensures c.ref_holds.ensures) w.0.left w.1)
-      c.if-ref_holds.branch,
+  elim c.if-ref_holds.branch [ then-ref_holds w ↦ turn_in c.loop-k.k (λ r. ref_in a.set (role_ref a.s.now r)) (omega (arith, p.0.few)) _ _ _ c.loop-k.invariant.1 (role-tested _ _ _ p.0 _ _ _ _ c.decode.ensures c.ref_holds.ensures) w.if-ref_holds.true (w.roles-is ∙ w.with-roles.ensures) | else-ref_holds w ↦ turn-out c.loop-k.k (λ r. ref_in a.set (role_ref a.s.now r)) (omega (arith, p.0.few)) _ _ _ c.loop-k.invariant.1 (role-tested _ _ _ p.0 _ _ _ _ c.decode.ensures c.ref_holds.ensures) w.if-ref_holds.false w.roles-is ],
 )
 
 -- src/lib.rt:301:1

@@ -5,10 +5,10 @@ use Rattle.rota.specs.Believed.RotaBytes.{roles_of}
 use Rattle.bitset.proofs.GatherLaws.{gather-in, gather-out}
 use native.Mathlib.Nat.{le_antisymm}
 use native.Mathlib.Omega.{arith}
-use mathlib.Core.Logic.{⊎_elim}
 use mathlib.Core.Path.{refl, ◌∙◌}
 use Prim.Native.Nat.{◌-◌}
 use Rattle.rota_answers.proofs.roles_from.Goals as goal
+use Rattle.rota_answers.proofs.roles_from.Goals.{then-row_of, else-row_of}
 
 pub loop-k-init : goal.loop-k-init
 loop-k-init c = (c.requires.4, c.requires.5)
@@ -38,10 +38,7 @@ pub loop-k-preserved : goal.loop-k-preserved
 unfolding roles_of_number
 loop-k-preserved c = let a = c.args in let p = c.requires in (
   omega arith,
-  ⊎_elim
-      (λ w. gather-in (roles_of a.s.now) (omega (arith, p.3)) (of_number a.s.now a.set a.at a.x) (role_at a.s.now a.at) _ _ _ _ _ c.loop-k.invariant.1 c.row_of.ensures w.1.ensures.0 (omega (arith, w.1.ensures.0, (p.0.each _ c.loop-k-test.true).role)) w.0.taken (w.3 ∙ w.2.ensures))
-      (λ w. gather-out (roles_of a.s.now) (omega (arith, p.3)) (of_number a.s.now a.set a.at a.x) (role_at a.s.now a.at) _ _ _ _ _ c.loop-k.invariant.1 c.row_of.ensures refl w.0.left w.1)
-      c.if-row_of.branch,
+  elim c.if-row_of.branch [ then-row_of w ↦ gather-in (roles_of a.s.now) (omega (arith, p.3)) (of_number a.s.now a.set a.at a.x) (role_at a.s.now a.at) _ _ _ _ _ c.loop-k.invariant.1 c.row_of.ensures w.read8.ensures.0 (omega (arith, w.read8.ensures.0, (p.0.each _ c.loop-k-test.true).role)) w.if-row_of.true (w.roles-is ∙ w.with-roles.ensures) | else-row_of w ↦ gather-out (roles_of a.s.now) (omega (arith, p.3)) (of_number a.s.now a.set a.at a.x) (role_at a.s.now a.at) _ _ _ _ _ c.loop-k.invariant.1 c.row_of.ensures refl w.if-row_of.false w.roles-is ],
 )
 
 pub returns : goal.returns

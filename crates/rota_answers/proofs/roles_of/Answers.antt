@@ -1,7 +1,6 @@
 -- The roles that the blocks so far give to the number are gathered; a block without it gives none.
 use borrow.Author.Rules.{rules}
 use native.Mathlib.Omega.{arith}
-use mathlib.Core.Logic.{⊎_elim}
 use mathlib.Core.Path.{sym, ◌∙◌}
 use Prim.Native.Nat.{◌-◌}
 use Rattle.bitset.proofs.GatherLaws.{gather_none}
@@ -9,6 +8,7 @@ use Rattle.rota.specs.Believed.RotaBytes.{roles_of}
 use Rattle.rota_answers.specs.Gathered.{roles_of_number}
 use Rattle.rota_answers.proofs.GatherRows.{of_number, role_at, fewer-fine, pass-rows}
 use Rattle.rota_answers.proofs.roles_of.Goals as goal
+use Rattle.rota_answers.proofs.roles_of.Goals.{then-any_numbered, else-any_numbered}
 
 pub loop-k-init : goal.loop-k-init
 unfolding roles_of_number
@@ -35,10 +35,7 @@ pub loop-k-preserved : goal.loop-k-preserved
 loop-k-preserved c =
     let l = c.loop-k in (
       omega arith,
-      ⊎_elim
-          (λ w. w.2 ∙ w.1.ensures)
-          (λ w. w.1 ∙ l.invariant.1 ∙ pass-rows _ (λ i. omega (arith, c.shared_slice_known-1.given i)) _ _ _ _ (sym c.any_numbered.ensures ∙ w.0.left))
-          c.if-any_numbered.branch,
+      elim c.if-any_numbered.branch [ then-any_numbered w ↦ w.roles-is ∙ w.roles_from-roles.ensures | else-any_numbered w ↦ w.roles-is ∙ l.invariant.1 ∙ pass-rows _ (λ i. omega (arith, c.shared_slice_known-1.given i)) _ _ _ _ (sym c.any_numbered.ensures ∙ w.if-any_numbered.false) ],
     )
 
 pub roles_from-requires : goal.roles_from-requires

@@ -6,10 +6,10 @@ use Rattle.rota.specs.Believed.RotaBytes.{users_of}
 use Rattle.bitset.proofs.GatherLaws.{gather_none, gather-in, gather-out}
 use native.Mathlib.Nat.{le_antisymm}
 use native.Mathlib.Omega.{arith}
-use mathlib.Core.Logic.{⊎_elim}
 use mathlib.Core.Path.{◌∙◌}
 use Prim.Native.Nat.{◌-◌}
 use Rattle.rota_answers.proofs.users_with.Goals as goal
+use Rattle.rota_answers.proofs.users_with.Goals.{then-row_with, else-row_with}
 
 pub loop-k-init : goal.loop-k-init
 unfolding users_with
@@ -37,10 +37,7 @@ pub loop-k-preserved : goal.loop-k-preserved
 unfolding users_with
 loop-k-preserved c = let a = c.args in let p = c.requires in (
   omega arith,
-  ⊎_elim
-      (λ w. gather-in (users_of a.s.now) (omega (arith, p.4)) (with_role a.s.now a.set a.at a.roles) (number_at a.s.now a.at) _ _ _ _ _ c.loop-k.invariant.1 c.row_with.ensures c.read8-user.ensures.0 (omega (arith, c.read8-user.ensures.0, (p.0.each _ c.loop-k-test.true).number)) w.0.taken (w.2 ∙ w.1.ensures))
-      (λ w. gather-out (users_of a.s.now) (omega (arith, p.4)) (with_role a.s.now a.set a.at a.roles) (number_at a.s.now a.at) _ _ _ _ _ c.loop-k.invariant.1 c.row_with.ensures c.read8-user.ensures.0 w.0.left w.1)
-      c.if-row_with.branch,
+  elim c.if-row_with.branch [ then-row_with w ↦ gather-in (users_of a.s.now) (omega (arith, p.4)) (with_role a.s.now a.set a.at a.roles) (number_at a.s.now a.at) _ _ _ _ _ c.loop-k.invariant.1 c.row_with.ensures c.read8-user.ensures.0 (omega (arith, c.read8-user.ensures.0, (p.0.each _ c.loop-k-test.true).number)) w.if-row_with.true (w.users-is ∙ w.with-users.ensures) | else-row_with w ↦ gather-out (users_of a.s.now) (omega (arith, p.4)) (with_role a.s.now a.set a.at a.roles) (number_at a.s.now a.at) _ _ _ _ _ c.loop-k.invariant.1 c.row_with.ensures c.read8-user.ensures.0 w.if-row_with.false w.users-is ],
 )
 
 pub returns : goal.returns

@@ -38,7 +38,7 @@ loop-rest-preserved c =
     let l = c.loop-rest in
     let r = c.lowest-u.ensures in (
       length-set l.rights _ _ ∙ l.invariant.0,
-      lt_trans (loop-less c) l.invariant.1,
+      lt_trans (loop-rest-smaller c) l.invariant.1,
       l.invariant.2 ∙ added-turn l.rights l.rest _ _ l.invariant.0 r.1 r.0.member _ _ c.either.ensures (c.without_lowest-rest.ensures _ r.0),
     )
 

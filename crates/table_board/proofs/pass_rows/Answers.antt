@@ -1,7 +1,6 @@
 -- The rows so far that cover the minute are counted, and the permissions of their entries are with their users.
 use Prim.Native.Nat.{◌-◌}
 use mathlib.Core.Path.{◌∙◌}
-use mathlib.Core.Logic.{⊎_elim}
 use native.Mathlib.Omega.{arith}
 use native.Mathlib.Nat.{le_antisymm}
 use borrow.Author.Rules.{rules}
@@ -11,6 +10,7 @@ use Rattle.table_answers.proofs.AnswerLaws.{row_inside}
 use Rattle.table_board.proofs.GatheredLaws.{gathered_none, gathered-length, gathered-few}
 use Rattle.table_board.proofs.RowLaws.{passed-in, passed-out, passed-all}
 use Rattle.table_board.proofs.pass_rows.Goals as goal
+use Rattle.table_board.proofs.pass_rows.Goals.{then-row_covers, else-row_covers}
 
 pub loop-i-init : goal.loop-i-init
 loop-i-init c = (search rules, gathered_none _ _)
@@ -47,10 +47,7 @@ loop-i-preserved c =
     let o = c.requires.0 in
     let v = c.row_covers.ensures in (
       omega arith,
-      ⊎_elim
-          (λ w. rw (w.3 ∙ w.2.ensures, w.4) (passed-in _ _ o _ _ _ _ l.invariant.1 _ v w.0.taken))
-          (λ w. rw (w.1, w.2) (passed-out _ _ o _ _ _ _ l.invariant.1 _ v w.0.left))
-          c.if-row_covers.branch,
+      elim c.if-row_covers.branch [ then-row_covers w ↦ rw (w.rights-is ∙ w.add_row.ensures, w.rows-is) (passed-in _ _ o _ _ _ _ l.invariant.1 _ v w.if-row_covers.true) | else-row_covers w ↦ rw (w.rights-is, w.rows-is) (passed-out _ _ o _ _ _ _ l.invariant.1 _ v w.if-row_covers.false) ],
     )
 
 pub returns : goal.returns

@@ -1,7 +1,6 @@
 -- search begins.
 use Prim.Native.Nat.{◌-◌}
 use mathlib.Core.Path.{◌∙◌}
-use mathlib.Core.Logic.{⊎_elim}
 use native.Mathlib.Omega.{arith}
 use native.Mathlib.Nat.{le_antisymm}
 use borrow.Author.Rules.{rules}
@@ -9,6 +8,7 @@ use Rattle.table_answers.proofs.AnswerLaws.{row_inside}
 use Rattle.table_board.proofs.GatheredLaws.{gathered_none, gathered-length, gathered-few}
 use Rattle.table_board.proofs.RowLaws.{searched-in, searched-out, searched-all}
 use Rattle.table_board.proofs.search_rows.Goals as goal
+use Rattle.table_board.proofs.search_rows.Goals.{then-k-all, else-k-all}
 
 -- The rows of the roles so far at the minute are counted, and the permissions of their entries are with their users. Nothing is known of where a
 
@@ -39,10 +39,7 @@ loop-r-preserved c =
     let o = c.requires.0 in
     let k = c.row_at-f.ensures in (
       omega arith,
-      ⊎_elim
-          (λ w. rw (w.3 ∙ w.2.ensures, w.4) (searched-in _ _ o _ _ _ _ l.invariant.1 _ k w.0.taken))
-          (λ w. rw (w.1, w.2) (searched-out _ _ o _ _ _ _ l.invariant.1 _ k w.0.left))
-          c.if-k-all.branch,
+      elim c.if-k-all.branch [ then-k-all w ↦ rw (w.rights-is ∙ w.add_row.ensures, w.count-is) (searched-in _ _ o _ _ _ _ l.invariant.1 _ k w.if-k-all.true) | else-k-all w ↦ rw (w.rights-is, w.count-is) (searched-out _ _ o _ _ _ _ l.invariant.1 _ k w.if-k-all.false) ],
     )
 
 pub returns : goal.returns

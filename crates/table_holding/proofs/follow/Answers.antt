@@ -1,7 +1,6 @@
 -- The rows so far reach to phase `far`.
 use Prim.Native.Nat.{◌-◌}
 use native.Mathlib.Omega.{arith}
-use borrow.Author.Tests.{not-false}
 use Rattle.minutes.specs.Believed.Minutes.{E}
 use Rattle.table_answers.proofs.AnswerLaws.{row_inside}
 use Rattle.table_holding.proofs.HeldLaws.{reach-read, cycle-few}
@@ -48,7 +47,7 @@ pub loop-i-preserved : goal.loop-i-preserved
 loop-i-preserved c = (
   omega arith,
   omega (arith, c.loop-i-test.true),
-  reach-read _ _ c.requires.0 _ c.loop-i-test.true _ _ _ _ _ _ c.requires.3 c.loop-i.invariant.2 (c.goes_on.ensures (not-false _ c.if-not-goes_on.false)) (omega (arith, c.read16.ensures)),
+  reach-read _ _ c.requires.0 _ c.loop-i-test.true _ _ _ _ _ _ c.requires.3 c.loop-i.invariant.2 (c.goes_on.ensures c.if-not-goes_on.false) (omega (arith, c.read16.ensures)),
 )
 
 pub overflow_sub-result-2 : goal.overflow_sub-result-2

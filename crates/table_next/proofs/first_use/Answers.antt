@@ -8,6 +8,7 @@ use Rattle.table_reader.proofs.ReadLaws.{opened-header}
 use Rattle.table.proofs.HeaderLaws.{laid}
 use Rattle.table_answers.proofs.AnswerLaws.{row_inside}
 use Rattle.table_next.proofs.PassLaws.{pass-none, pass-idle, pass_all, pass-stop, pass-now}
+use Rattle.std.proofs.lemmas.Bool.{not_from_true}
 use Rattle.table_next.proofs.first_use.Goals as goal
 
 pub loop-k-init : goal.loop-k-init
@@ -65,7 +66,7 @@ loop-k-preserved c =
     let e = c.block_end-next.ensures in (
       omega arith,
       pass-idle _ _ c.requires.0 _ _ _ _ _ _ c.loop-k.invariant.1 _ (omega (arith, c.loop-k-test.true)) (omega arith) _
-          c.is_idle.ensures c.if-not-is_idle.false,
+          c.is_idle.ensures (not_from_true _ c.if-not-is_idle.false),
     )
 
 pub returns : goal.returns

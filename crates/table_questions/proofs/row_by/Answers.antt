@@ -1,9 +1,9 @@
-use mathlib.Core.Logic.{⊎_elim}
 use native.Mathlib.Omega.{arith}
 use Rattle.table.proofs.HeaderLaws.{counts-are}
 use Rattle.table_questions.proofs.StartLaws.{begins-end}
 use Rattle.table_questions.proofs.AskedLaws.{roles-few}
 use Rattle.table_questions.proofs.row_by.Goals as goal
+use Rattle.table_questions.proofs.row_by.Goals.{then-next-n, else-next-n}
 
 pub bounds-starts-role : goal.bounds-starts-role
 bounds-starts-role c = omega (arith, roles-few _ _ c.requires.0)
@@ -18,8 +18,5 @@ row_among-requires c =
       q.0,
       q.2,
       q.1.begins _ (omega (arith, e.roles, q.3)),
-      ⊎_elim
-          (λ w. rw w.2 (q.1.begins _ (omega (arith, e.roles, w.0.taken))))
-          (λ w. rw w.1 (begins-end _ _ q.0 _ (omega (arith, w.0.left))))
-          c.if-next-n.branch,
+      elim c.if-next-n.branch [ then-next-n w ↦ rw w.past-is (q.1.begins _ (omega (arith, e.roles, w.if-next-n.true))) | else-next-n w ↦ rw w.past-is (begins-end _ _ q.0 _ (omega (arith, w.if-next-n.false))) ],
     )

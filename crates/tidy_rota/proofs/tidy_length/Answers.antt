@@ -18,13 +18,13 @@ pub overflow_mul-result : goal.overflow_mul-result
 overflow_mul-result c = omega (arith, c.count_kind-users.ensures, users-most c.args.s.now c.args.l c.requires)
 
 pub overflow_add-result : goal.overflow_add-result
-overflow_add-result c = omega (arith, c.count_kind-users.ensures, users-most c.args.s.now c.args.l c.requires, c.count_kind-permissions.ensures, permissions-most c.args.s.now c.args.l c.requires, within c.args.s.now c.args.l c.requires, c.well-formed)
+overflow_add-result c = omega (arith, c.count_kind-users.ensures, users-most c.args.s.now c.args.l c.requires, c.count_kind-permissions.ensures, permissions-most c.args.s.now c.args.l c.requires, within c.args.s.now c.args.l c.requires, c.well_formed)
 
 pub overflow_mul-result-2 : goal.overflow_mul-result-2
-overflow_mul-result-2 c = omega (arith, c.count_kind-users.ensures, users-most c.args.s.now c.args.l c.requires, c.count_kind-permissions.ensures, permissions-most c.args.s.now c.args.l c.requires, within c.args.s.now c.args.l c.requires, c.well-formed)
+overflow_mul-result-2 c = omega (arith, c.count_kind-users.ensures, users-most c.args.s.now c.args.l c.requires, c.count_kind-permissions.ensures, permissions-most c.args.s.now c.args.l c.requires, within c.args.s.now c.args.l c.requires, c.well_formed)
 
 pub overflow_add-result-2 : goal.overflow_add-result-2
-overflow_add-result-2 c = omega (arith, c.count_kind-users.ensures, users-most c.args.s.now c.args.l c.requires, c.count_kind-permissions.ensures, permissions-most c.args.s.now c.args.l c.requires, within c.args.s.now c.args.l c.requires, c.well-formed)
+overflow_add-result-2 c = omega (arith, c.count_kind-users.ensures, users-most c.args.s.now c.args.l c.requires, c.count_kind-permissions.ensures, permissions-most c.args.s.now c.args.l c.requires, within c.args.s.now c.args.l c.requires, c.well_formed)
 
 pub returns : goal.returns
 returns c = omega (arith, c.count_kind-users.ensures, c.count_kind-permissions.ensures, length-is c.args.s.now c.args.l c.requires (λ i. omega (arith, c.shared_slice_known-1.given i)))
