@@ -11,8 +11,8 @@ const HEAD: &str = "\
 # Wrong programs that the prover must refuse
 
 Made from the files below crates/ by rust/audit, and compared by the gate, which tries each: `crate/name` is the edit crates/crate/must-fail/name.edit
-of a line or a few of the crate's source or definitions. Each is refused at a fact that no longer holds, which its file tells, and never for want of a fact's
-name. docs/CLAIMS.md says which wrong programs they stand for, and which others were tried once.
+of a line or a few of the crate's source, definitions or laws, with an import where it needs one. Each is refused at a fact that no longer holds, which
+its file tells, and never for want of a fact's name. docs/CLAIMS.md says which wrong programs they stand for.
 ";
 
 struct Edit<'a> {
@@ -65,8 +65,8 @@ fn judged(repository: &Repository, krate: &str, edit: &Edit) -> Result<(), Strin
     for Change { file, old, new } in &edit.changes {
         let path = format!("crates/{krate}/{file}");
         let stored = repository.files.get(&path).ok_or(format!("there is no {path}"))?;
-        if !file.starts_with("src/") && !file.starts_with("specs/") {
-            return Err("it changes neither source nor definitions".to_string());
+        if !["src/", "specs/", "proofs/"].iter().any(|folder| file.starts_with(folder)) {
+            return Err("it changes neither source nor definitions nor laws".to_string());
         }
         let text = changed.entry(path).or_insert_with(|| stored.clone());
         if text.matches(old).count() != 1 {

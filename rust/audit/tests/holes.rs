@@ -351,7 +351,7 @@ fn edits_that_try_nothing() {
     some(hidden(EDITED, "x <= b)", "x < b) // odd"), "changes nothing that the prover reads");
     some(hidden(EDITED, "old:     told(a <=", "old:     told(a =="), "does not stand there once");
     some(hidden(EDITED, "old:     told(a <= x && x < b)", "old: a"), "does not stand there once");
-    some(hidden(EDITED, "src/lib.rt", "proofs/Laws.antt"), "neither source nor definitions");
+    some(hidden(EDITED, "src/lib.rt", "proofs/Laws.antt"), "does not stand there once");
     some(hidden(EDITED, "src/lib.rt", "src/other.rt"), "there is no crates/clock/src/other.rt");
     some(hidden(EDITED, "# fails on", "# at"), "no line that says what it fails on");
     some(after(EDITED, "an end", "the end"), "docs/EDITS.md");

@@ -1,7 +1,6 @@
 //! The command line: commands, their options and what else they take.
 
 use std::ffi::{OsStr, OsString};
-use std::path::Path;
 
 use crate::hint::did_you_mean;
 use crate::run::{Failure, Io, Status};
@@ -12,8 +11,6 @@ use crate::words::shown;
 pub enum Opt {
     /// `-o OUT`: where the result is written.
     Output,
-    /// `--force`: what stands there is replaced, whatever it is.
-    Force,
     /// `--names FILE`
     Names,
     /// `--no-names`
@@ -29,28 +26,12 @@ pub enum Opt {
 }
 
 impl Opt {
-    const ALL: [Opt; 8] = [
-        Opt::Output,
-        Opt::Force,
-        Opt::Names,
-        Opt::NoNames,
-        Opt::Plain,
-        Opt::Html,
-        Opt::Right,
-        Opt::Volunteer,
-    ];
+    const ALL: [Opt; 7] =
+        [Opt::Output, Opt::Names, Opt::NoNames, Opt::Plain, Opt::Html, Opt::Right, Opt::Volunteer];
 
     fn long(self) -> &'static str {
-        [
-            "--output",
-            "--force",
-            "--names",
-            "--no-names",
-            "--plain",
-            "--html",
-            "--right",
-            "--volunteer",
-        ][self as usize]
+        ["--output", "--names", "--no-names", "--plain", "--html", "--right", "--volunteer"]
+            [self as usize]
     }
 
     /// What stands after it, if anything does.
@@ -58,14 +39,13 @@ impl Opt {
         match self {
             Opt::Output | Opt::Names | Opt::Html => Some("a file"),
             Opt::Right | Opt::Volunteer => Some("a name or a number"),
-            Opt::Force | Opt::NoNames | Opt::Plain => None,
+            Opt::NoNames | Opt::Plain => None,
         }
     }
 
     fn help(self) -> &'static str {
         match self {
             Opt::Output => "  -o OUT, --output=OUT  write to OUT, whole or not at all\n",
-            Opt::Force => "  --force               replace OUT though what people wrote is lost\n",
             Opt::Names => {
                 "  --names FILE          take the names of FILE, not those of the file beside\n"
             }
@@ -101,7 +81,6 @@ pub struct Command {
 pub struct Call {
     pub arguments: Vec<OsString>,
     pub output: Option<OsString>,
-    pub force: bool,
     pub names: Option<OsString>,
     pub no_names: bool,
     pub plain: bool,
@@ -116,12 +95,6 @@ impl Call {
         self.arguments
             .get(number)
             .map_or(String::new(), |argument| argument.to_string_lossy().into_owned())
-    }
-
-    /// The file that is written to; none where that is standard output.
-    pub fn out(&self) -> Option<&Path> {
-        let out = self.output.as_deref().or(self.html.as_deref());
-        out.filter(|&out| out != "-").map(Path::new)
     }
 }
 
@@ -153,7 +126,6 @@ impl Command {
         let mut call = Call {
             arguments: Vec::new(),
             output: None,
-            force: false,
             names: None,
             no_names: false,
             plain: false,
@@ -186,10 +158,6 @@ impl Command {
         if call.names.is_some() && call.no_names {
             return Err(self.wrong("--names and --no-names do not go together".into()));
         }
-        if call.force && call.out().is_none() {
-            let what = format!("--force is for a file that is written: {}", self.usage());
-            return Err(self.wrong(what));
-        }
         Ok(Some(call))
     }
 
@@ -217,7 +185,6 @@ impl Command {
         };
         let is_repeated = match option {
             Opt::Output => std::mem::replace(&mut call.output, value).is_some(),
-            Opt::Force => std::mem::replace(&mut call.force, true),
             Opt::Names => std::mem::replace(&mut call.names, value).is_some(),
             Opt::NoNames => std::mem::replace(&mut call.no_names, true),
             Opt::Plain => std::mem::replace(&mut call.plain, true),

@@ -1,14 +1,13 @@
 //! check, text, pack and tidy: a rota judged, and in its other forms.
 
-use std::fs;
+use std::path::Path;
 
 use softlode::{Rota, RotaCounts};
 
 use crate::args::Call;
-use crate::files::{Pending, Source, cannot_write, with_names};
+use crate::files::{Pending, Source, with_names};
 use crate::names::{Head, Names, NamesFile};
 use crate::parts::Parts;
-use crate::replace::{self, Beside, New};
 use crate::run::{Failure, Io, Status};
 use crate::subject::{Judged, Subject, explained};
 use crate::text;
@@ -52,10 +51,9 @@ pub fn text(call: &Call, io: &mut Io) -> Result<Status, Failure> {
     let rota = subject.rota()?;
     let names = subject.names(call, Judged::Rota(rota), io)?;
     let text = text::print(&Parts::of(&rota), &names);
-    match call.out() {
+    match output(call) {
         None => io.print(text)?,
         Some(path) => {
-            replace::judge(call, path, New::Text(&rota, &names))?;
             Pending::write(path, text.as_bytes())?.commit()?;
             io.print(format!("wrote {}\n", path.display()))?;
         }
@@ -72,7 +70,7 @@ pub fn pack(call: &Call, io: &mut Io) -> Result<Status, Failure> {
         Failure::Refused(format!("{}, {unpacked}{}", source.shown(), binary_hint(&bytes)))
     })?;
     write_rota(call, io, &packed.bytes, &packed.names)?;
-    if call.out().is_none() && !packed.names.is_empty() {
+    if output(call).is_none() && !packed.names.is_empty() {
         io.note("the names of the text are not kept: -o OUT keeps them in OUT.names");
     }
     Ok(Status::Done)
@@ -98,17 +96,21 @@ pub fn tidy(call: &Call, io: &mut Io) -> Result<Status, Failure> {
     Ok(Status::Done)
 }
 
-/// Writes the bytes of a rota that the library accepts, and its names beside them if it has any.
+/// The file that is written to; standard output where there is none, or `-`.
+fn output(call: &Call) -> Option<&Path> {
+    call.output.as_deref().filter(|&output| output != "-").map(Path::new)
+}
+
+/// Writes the bytes of a rota that the library accepts, and its names beside them.
 fn write_rota(call: &Call, io: &mut Io, bytes: &[u8], names: &Names) -> Result<(), Failure> {
     let rota = Rota::read(bytes)?;
-    let Some(path) = call.out() else {
+    let Some(path) = output(call) else {
         if io.output_is_terminal {
             let what = "the bytes of a rota are not for a terminal: -o OUT writes them to a file";
             return Err(Failure::Wrong(what.into()));
         }
         return io.print(bytes);
     };
-    let beside = replace::judge(call, path, New::Rota(&rota, names))?;
     let rota_file = Pending::write(path, bytes)?;
     let written = format!("wrote {}: {}", path.display(), counts_in_words(&rota.counts()));
     if !rota_file.is_plain() {
@@ -121,24 +123,10 @@ fn write_rota(call: &Call, io: &mut Io, bytes: &[u8], names: &Names) -> Result<(
     // Both are whole before the first is in its place. Between the two the sum says that the names
     // are not those of the rota.
     let names_path = with_names(path);
-    if beside == Beside::Written {
-        let names_file = NamesFile { names: names.clone(), head: Some(Head::of(&rota)?) };
-        Pending::write(&names_path, names_file.print().as_bytes())?.commit()?;
-    }
+    let head = Some(Head::of(&rota)?);
+    let names_file = NamesFile { names: names.clone(), head };
+    let names_file = Pending::write(&names_path, names_file.print().as_bytes())?;
+    names_file.commit()?;
     rota_file.commit()?;
-    let done = match beside {
-        Beside::Nothing => return io.print(format!("{written}\n")),
-        Beside::Kept => "kept",
-        Beside::Unfit => {
-            let (names, rota) = (names_path.display(), path.display());
-            io.note(format_args!("{names} does not fit {rota}, and is left as it is"));
-            "kept"
-        }
-        Beside::Written => "wrote",
-        Beside::Removed => {
-            fs::remove_file(&names_path).map_err(|error| cannot_write(&names_path, &error))?;
-            "removed"
-        }
-    };
-    io.print(format!("{written}\n{done} {}\n", names_path.display()))
+    io.print(format!("{written}\nwrote {}\n", names_path.display()))
 }

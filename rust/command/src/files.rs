@@ -86,11 +86,6 @@ pub fn plain(error: &io::Error) -> String {
     text.split(" (os error").next().unwrap_or(&text).to_string()
 }
 
-/// The beginning of a file: all of it where it can be a text that is read.
-pub fn beginning(path: &Path) -> io::Result<Vec<u8>> {
-    up_to(&mut File::open(path)?, LONGEST_TEXT + 1)
-}
-
 /// Up to so many bytes; where memory ends, that is an error like another.
 fn up_to(file: &mut dyn Read, limit: u64) -> io::Result<Vec<u8>> {
     const PIECE: usize = 1 << 16;
@@ -205,8 +200,7 @@ impl Drop for Pending {
     }
 }
 
-/// That a file cannot be written, and why.
-pub fn cannot_write(path: &Path, error: &io::Error) -> Failure {
+fn cannot_write(path: &Path, error: &io::Error) -> Failure {
     Failure::Wrong(format!("cannot write {}: {}", path.display(), plain(error)))
 }
 

@@ -14,7 +14,6 @@ pub mod names;
 pub mod parts;
 pub mod place;
 pub mod progress;
-pub mod replace;
 pub mod run;
 pub mod subject;
 pub mod text;
@@ -45,7 +44,7 @@ pub const COMMANDS: &[Command] = &[
         name: "text",
         takes: "FILE",
         arguments: (1, 1),
-        options: &[Opt::Output, Opt::Force, Opt::Names, Opt::NoNames],
+        options: &[Opt::Output, Opt::Names, Opt::NoNames],
         summary: "Prints a rota as text, which can be read, changed and packed again",
         help: TEXT_HELP,
         run: convert::text,
@@ -54,7 +53,7 @@ pub const COMMANDS: &[Command] = &[
         name: "pack",
         takes: "TEXT",
         arguments: (1, 1),
-        options: &[Opt::Output, Opt::Force],
+        options: &[Opt::Output],
         summary: "Makes the bytes of a rota from its text",
         help: TEXT_HELP,
         run: convert::pack,
@@ -63,7 +62,7 @@ pub const COMMANDS: &[Command] = &[
         name: "tidy",
         takes: "FILE",
         arguments: (1, 1),
-        options: &[Opt::Output, Opt::Force, Opt::Names, Opt::NoNames],
+        options: &[Opt::Output, Opt::Names, Opt::NoNames],
         summary: "Puts the rows of a rota in order, each once, so that two can be compared",
         help: "The result is of format 3. It gives the same answers as before.",
         run: convert::tidy,
@@ -108,7 +107,7 @@ pub const COMMANDS: &[Command] = &[
         name: "week",
         takes: "FILE [DATE] [--html OUT]",
         arguments: (1, 4),
-        options: &[Opt::Html, Opt::Force, Opt::Right, Opt::Volunteer, Opt::Names, Opt::NoNames],
+        options: &[Opt::Html, Opt::Right, Opt::Volunteer, Opt::Names, Opt::NoNames],
         summary: "Shows a week: who may use each right, and when",
         help: "DATE is 2024-02-28, a date and time, or a number of minutes from 2001-01-01 00:00 on; without it,\n\
                the week is today's. A cycle that is no week is shown by its own length. What is otherwise in the\n\

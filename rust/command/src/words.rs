@@ -90,14 +90,6 @@ pub fn lines(text: &str) -> impl Iterator<Item = Result<Line<'_>, Complaint>> {
     numbered.filter(|line| !line.as_ref().is_ok_and(|line| line.words.is_empty()))
 }
 
-/// Whether a text says more than its words: comments, or a line that cannot be taken apart.
-pub fn has_comments(text: &str) -> bool {
-    text.lines().any(|text| {
-        let ends = |line: Line| text.chars().skip(line.end - 1).all(char::is_whitespace);
-        !line(0, text).is_ok_and(ends)
-    })
-}
-
 /// One line.
 pub fn line(number: usize, text: &str) -> Result<Line<'_>, Complaint> {
     let mut words = Vec::new();

@@ -144,7 +144,7 @@ fn packed_and_tidied_files_keep_their_names() {
     assert!(run(&["check", "tidy.rota"]).text().ends_with(", with names that fit\n"));
     assert_eq!(run(&["tidy", "tidy.rota"]).output, tidy);
     // In its place.
-    assert_eq!(run(&["tidy", "my.rota", "-o", "my.rota", "--force"]).status, 0);
+    assert_eq!(run(&["tidy", "my.rota", "-o", "my.rota"]).status, 0);
     assert_eq!(fs::read(folder.path("my.rota")).unwrap(), tidy);
     assert_eq!(
         folder.names(),
@@ -245,7 +245,7 @@ fn whole_or_not_at_all() {
     // The permissions of a file that is replaced stay; a link is followed, and stays.
     fs::set_permissions(folder.path("out"), fs::Permissions::from_mode(0o640)).unwrap();
     symlink("out", folder.path("link")).unwrap();
-    assert_eq!(run(&["pack", "good.text", "-o", "link", "--force"]).status, 0);
+    assert_eq!(run(&["pack", "good.text", "-o", "link"]).status, 0);
     assert_eq!(fs::read_link(folder.path("link")).unwrap().as_os_str(), "out");
     assert_eq!(fs::read(folder.path("out")).unwrap().len(), 12);
     assert_eq!(fs::metadata(folder.path("out")).unwrap().permissions().mode() & 0o7777, 0o640);

@@ -102,10 +102,6 @@ fn anchor(section: &Section) -> String {
     format!("{}-{}", section.kind.word(), section.number)
 }
 
-/// How every page begins, by which it is known again.
-pub const BEGINNING: &str = "<!DOCTYPE html>\n<html lang='en'>\n<head>\n<meta charset='utf-8' />\n\
-    <meta name='viewport' content='width=device-width, initial-scale=1' />\n<title>";
-
 /// The page.
 pub fn page(report: &Report) -> String {
     let groups = [Kind::Right, Kind::Volunteer].map(|kind| {
@@ -115,7 +111,9 @@ pub fn page(report: &Report) -> String {
     let title = report.title();
     let counts = [Kind::Right, Kind::Volunteer].map(|kind| kind.counted(report.week.count(kind)));
     let mut page = format!(
-        "{BEGINNING}{source}: {title}</title>\n<style>\n{css}</style>\n</head>\n<body>\n<header>\n\
+        "<!DOCTYPE html>\n<html lang='en'>\n<head>\n<meta charset='utf-8' />\n\
+         <meta name='viewport' content='width=device-width, initial-scale=1' />\n\
+         <title>{source}: {title}</title>\n<style>\n{css}</style>\n</head>\n<body>\n<header>\n\
          <h1>Who may do what in the {dated_title}</h1>\n\
          <p>By {source}{by}: {counts}, a cycle of {cycle}. {remarks}</p>\n",
         source = escaped(&report.source),

@@ -18,7 +18,6 @@ use crate::files::{Pending, Source};
 use crate::names::{Kind, Names};
 use crate::parts::Parts;
 use crate::progress::Progress;
-use crate::replace::{self, New};
 use crate::run::{Failure, Io, Status};
 use crate::subject::{Judged, Subject, number};
 use crate::when::{Cycle, DAY, WEEK, date, read_when};
@@ -46,17 +45,16 @@ pub fn week(call: &Call, io: &mut Io) -> Result<Status, Failure> {
     let chosen = chosen(call, &week, &names)?;
     let source = source(&subject.source);
     let report = Report { week, names, source, by: judged.by(), today, chosen };
-    if call.html.is_none() {
+    let Some(out) = &call.html else {
         let look = io.output_is_terminal.then(terminal::Look::here);
         io.print(terminal::print(&report, look.as_ref()))?;
         return Ok(Status::Done);
-    }
+    };
     let page = html::page(&report);
-    match call.out() {
-        None => io.print(page)?,
-        Some(path) => {
-            replace::judge(call, path, New::Page)?;
-            Pending::write(path, page.as_bytes())?.commit()?;
+    match Source::of(out) {
+        Source::Standard => io.print(page)?,
+        Source::File(path) => {
+            Pending::write(&path, page.as_bytes())?.commit()?;
             io.print(format!("wrote {}: the {}\n", path.display(), report.title()))?;
         }
     }
