@@ -388,6 +388,7 @@ fn an_axiom() {
         "axioms libc: libc::read (1 of the 50 declared)\nlogic=proved functions=8 axioms=1 sum=0\n";
     assert_eq!(axioms("rota", printed).len(), 2);
     assert_eq!(axioms("rota", "logic=proved functions=8 sum=0\n").len(), 0);
+    assert_eq!(axioms("rota", "axioms libc: none reached of the 128 declared\n").len(), 0);
 }
 
 #[test]
