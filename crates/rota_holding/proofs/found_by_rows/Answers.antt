@@ -1,11 +1,12 @@
 -- One user row after the other.
 use Prim.Native.Nat.{◌-◌}
 use mathlib.Core.Path.{sym, ◌∙◌}
-use mathlib.Core.Logic.{⊎_elim, inl, inr}
+use mathlib.Core.Logic.{inl, inr}
 use native.Mathlib.Omega.{arith}
 use Rattle.rota_answers.proofs.AskedLaws.{few-hours}
 use Rattle.rota_holding.proofs.RestLaws.{in_rows, past-rows, row_here, user-as, user-small, role-few, row-refers, gives_as, sought, rested-none, rested-in, rested-out, rested-stop, rested-all}
 use Rattle.rota_holding.proofs.found_by_rows.Goals as goal
+use Rattle.rota_holding.proofs.found_by_rows.Goals.{then-contains+then-row_with, then-contains+else-row_with, else-contains}
 
 pub loop-k-init : goal.loop-k-init
 loop-k-init c = rested-none _ _ _
@@ -39,12 +40,11 @@ rest_on-on-requires c = let p = c.requires in let m = in_rows _ _ p.0 _ c.loop-k
 
 pub loop-k-preserved : goal.loop-k-preserved
 loop-k-preserved c = let p = c.requires in let m = in_rows _ _ p.0 _ c.loop-k-test.true in let i = c.loop-k.invariant in let ok = user-as _ _ p.0 _ m in let b = user-small _ _ p.0 _ m in let e = sought _ _ _ c.lost.ensures c.contains.ensures in
-    ⊎_elim
-    (λ w. rested-in i m _ ok b (sym e ∙ w.0.taken) (w.5 ∙ w.3.ensures) w.4.ensures w.6)
-    (⊎_elim
-    (λ w. rested-out i m _ ok b (inr (sym (gives_as _ _ p.0 _ m _ p.2 w.1.ensures) ∙ w.2.left)) w.3 w.4)
-    (λ w. rested-out i m _ ok b (inl (sym e ∙ w.0.left)) w.1 w.2))
-    c.if-contains.branch
+    elim c.if-contains.branch [
+      | then-contains+then-row_with w ↦ rested-in i m _ ok b (sym e ∙ w.if-contains.true) (w.found-is ∙ w.with-found.ensures) w.rest_on-on.ensures w.on-is
+      | then-contains+else-row_with w ↦ rested-out i m _ ok b (inr (sym (gives_as _ _ p.0 _ m _ p.2 w.row_with.ensures) ∙ w.if-row_with.false)) w.found-is w.on-is
+      | else-contains w ↦ rested-out i m _ ok b (inl (sym e ∙ w.if-contains.false)) w.found-is w.on-is
+    ]
 
 pub returns : goal.returns
 returns c = rested-all c.loop-k.invariant (past-rows _ _ c.requires.0 _ c.loop-k-test.false)

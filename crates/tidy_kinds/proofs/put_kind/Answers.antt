@@ -10,14 +10,14 @@ pub copy-requires : goal.copy-requires
 copy-requires c =
     let a = c.args in
     let p = c.requires in
-    let e = in-order-long a.s.now a.at a.n p.0 (sym c.any_falls.ensures ∙ not-true _ c.if-not-any_falls.true) in
+    let e = in-order-long a.s.now a.at a.n p.0 (sym c.any_falls.ensures ∙ c.if-not-any_falls.true) in
     (omega (arith, p.1, e), p.0.within)
 
 pub returns-then-not-any_falls : goal.returns-then-not-any_falls
 returns-then-not-any_falls c =
     let a = c.args in
     let p = c.requires in
-    let up = sym c.any_falls.ensures ∙ not-true _ c.if-not-any_falls.true in
+    let up = sym c.any_falls.ensures ∙ c.if-not-any_falls.true in
     let e = in-order-long a.s.now a.at a.n p.0 up in (
       c.copy.ensures
           ∙ ap (sets a.out.now a.to) (in-order-bytes a.s.now a.at a.n p.0 up (λ i. omega (arith, c.shared_slice_known-1.given i))),
