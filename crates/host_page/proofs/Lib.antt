@@ -1,3 +1,2 @@
 pub mod PageLaws
 pub mod EachLaws
-pub mod PageWalk

@@ -1,2 +1,0 @@
-pub mod LentOne
-pub mod LentTwo
