@@ -18,9 +18,9 @@ next_record-at-requires c = (passed-fine c.loop-k.invariant.passed _ c.requires.
 
 pub loop-k-preserved : goal.loop-k-preserved
 loop-k-preserved c = elim c.if-record_holds.branch [
-      then-record_holds w ↦ gather-in _ _ _ _ c.loop-k.invariant c.loop-k-test.true (omega arith) c.record_holds.ensures c.next_record-at.ensures w.if-record_holds.true (w.set-is ∙ w.with-set.ensures)
-    | else-record_holds w ↦ gather-out _ _ _ _ c.loop-k.invariant c.loop-k-test.true (omega arith) c.record_holds.ensures c.next_record-at.ensures w.if-record_holds.false w.set-is
-    ]
+  | then-record_holds w ↦ gather-in _ _ _ _ c.loop-k.invariant c.loop-k-test.true (omega arith) c.record_holds.ensures c.next_record-at.ensures w.if-record_holds.true (w.set-is ∙ w.with-set.ensures)
+  | else-record_holds w ↦ gather-out _ _ _ _ c.loop-k.invariant c.loop-k-test.true (omega arith) c.record_holds.ensures c.next_record-at.ensures w.if-record_holds.false w.set-is
+]
 
 pub returns : goal.returns
 unfolding holding
