@@ -2,16 +2,18 @@
 --     list-refused, bytes-refused, begun    more than 256 records; bytes that are refused; neither
 --     one-answered                          a record with its answer
 --     counted-few, counted_ready, page-done the loop over the records: no more turns than records, each on accepted bytes, and the list after all of them
+--     page-turn, page-ended                 the list after one more turn, and where the loop ends
 -- Assumes nothing.
-use Prim.Native.Nat.{ℕ, zero, suc, ◌≤◌, ◌<◌}
+use Prim.Native.Nat.{ℕ, zero, suc, ◌+◌, ◌≤◌, ◌<◌}
 use mathlib.Core.Path.{◌≡◌, refl, sym, ap, ◌∙◌}
 use mathlib.Core.Bool.{Bool, true, false}
 use mathlib.Core.List.{List, map}
 use mathlib.Core.Option.{Option}
+use native.Mathlib.Nat.{le_antisymm}
 use native.Mathlib.Omega.{arith}
 use borrow.Author.Tests.{eq-eqb, ne_eqb}
 use lib.Dec.{ltb, eqb}
-use lib.ListN.{length}
+use lib.ListN.{length, get_or, set}
 use Rattle.ground.specs.Believed.Choice.{pick}
 use Rattle.ground.specs.Believed.Judgement.{refuse, ◌or_else◌}
 use Rattle.ground.specs.Believed.Outcome.{Outcome}
@@ -24,7 +26,7 @@ use Rattle.host_page.specs.Believed.Page.{place_told, answered, page_judged, pag
 use Rattle.host_page.specs.Inside.{Ready, Begins, with_answer}
 use Rattle.host_page.specs.declared.Begun.{Begun}
 use Rattle.host_page.specs.declared.Question.{Question}
-use Rattle.host_page.proofs.EachLaws.{up_to, up_to-zero, up_to-all}
+use Rattle.host_page.proofs.EachLaws.{up_to, up_to-zero, up_to-set, up_to-all}
 
 -- t is whether there are more than 256 records
 module _ (k : Kind) (n : ℕ) (s : List ℕ) (b : Begun) (t : Bool) (et : t ≡ ltb 256 n) where
@@ -84,3 +86,15 @@ module _ (k : Kind) (s : List ℕ) (b : Begun) where
           ap (λ (i : ℕ). up_to (answered k s) i qs) (w.nothing (λ z. absurd (omega arith)))
           ∙ up_to-zero (answered k s) qs
           ∙ sym (pick-false _ _ _ (ne_eqb (page_judged k (length qs) s) 0 (λ z. absurd (omega (arith, w.judged)))))
+
+-- one more record of a list has its answer
+pub page-turn : (k : Kind) (s : List ℕ) (qs l : List Question) (i : ℕ) (d y : Question) → l ≡ up_to (answered k s) i qs → y ≡ answered k s (get_or l i d)
+    → set l i y ≡ up_to (answered k s) (i + 1) qs
+page-turn k s qs l i d y at e =
+    ap (λ (m : List Question). set m i y) at
+    ∙ up_to-set (answered k s) i qs d y (e ∙ ap (λ (m : List Question). answered k s (get_or m i d)) at)
+
+-- the list where as many records have their answers as are to be answered
+pub page-ended : (k : Kind) (s : List ℕ) (b : Begun) (qs l : List Question) (i : ℕ) → Begins k (length qs) s b → i ≤ b.count → b.count ≤ i → l ≡ up_to (answered k s) i qs
+    → l ≡ page_after k s qs
+page-ended k s b qs l i w h g at = at ∙ ap (λ (j : ℕ). up_to (answered k s) j qs) (le_antisymm h g) ∙ page-done k s b qs w

@@ -1,0 +1,15 @@
+-- Each turn puts a record's answer in its place, and there are as many turns as records, or none where something is refused.
+use Rattle.std.proofs.Common.{sym, arith}
+use Rattle.host_page.proofs.EachLaws.{up_to-zero}
+use Rattle.host_page.proofs.PageLaws.{page-turn, page-ended}
+use Rattle.softlode.proofs.softlode_table_page.Goals as goal
+
+pub loop-i-init : goal.loop-i-init
+loop-i-init c = (omega arith, sym (up_to-zero _ _))
+
+pub loop-i-preserved : goal.loop-i-preserved
+loop-i-preserved c = (omega (arith, c.loop-i-test.true), page-turn _ _ _ _ _ _ _ c.loop-i.invariant.1 c.answer_by_table.ensures)
+
+pub returns : goal.returns
+returns c =
+    (c.begin_table-b.ensures.judged, page-ended _ _ _ _ _ _ c.begin_table-b.ensures c.loop-i.invariant.0 c.loop-i-test.false c.loop-i.invariant.1)
