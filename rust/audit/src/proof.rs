@@ -171,7 +171,7 @@ impl<'a> Proof<'a> {
             .clone()
             .filter(|at| *at == range.start || self.tokens[*at].first)
             .filter(|at| self.tokens[*at].column <= first.column)
-            .filter(|at| ![")", "}"].contains(&self.word(*at)))
+            .filter(|at| ![")", "}", "]"].contains(&self.word(*at)))
             .collect();
         let ends = starts.iter().skip(1).copied().chain([range.end]);
         starts.iter().copied().zip(ends).map(|(start, end)| start..end).collect()

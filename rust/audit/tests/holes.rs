@@ -149,6 +149,8 @@ fn comments_layout_and_proofs_are_no_claims() {
     nothing(after(SPECS, "-- When", "-- Whether"));
     nothing(after(RT, "// Whether", "/* nested /* quoted \" */ */ // Whether"));
     nothing(after(PROOFS, "search rules", "omega arith"));
+    let cases = "step c = elim c.branch [\n  | then w ↦ w.0\n  | else w ↦ w.1\n]\n\nmodule";
+    nothing(after(PROOFS, "module", cases));
 }
 
 #[test]
