@@ -17,11 +17,11 @@ numbers := $(shell sed -n 's/^\#define SOFTLODE_VERSION_[A-Z]* \([0-9]*\)$$/\1/p
 major := $(firstword $(numbers))
 version := $(word 1,$(numbers)).$(word 2,$(numbers)).$(word 3,$(numbers))
 
-proved := target/staticlib/libsoftlode.a
+proved := crates/softlode/out/libsoftlode.a
 archive := target/lib/libsoftlode.a
 shared := target/lib/libsoftlode.so.$(version)
 command := rust/target/release/softlode
-sources := crates.txt $(shell find crates -type f)
+sources := crates.txt $(shell find crates -type f -not -path '*/out/*')
 
 .NOTPARALLEL:
 .DELETE_ON_ERROR:
@@ -32,14 +32,16 @@ all: $(archive) target/lib/libsoftlode.so target/bin/listing $(command)
 check:
 	.ci/run
 
-# rt check proves as many crates at a time as there are processors; rt staticlib, which goes one by one, finds them proved but for the last.
+# rt proves a crate and all below it before it builds anything, and what it proved it keeps in the crates' out/.
 $(proved): $(sources)
-	rt check softlode listing
-	rt staticlib softlode
-
-target/bin/listing: $(sources)
-	rt check listing
+	cd crates/softlode && rt lib
 	touch $@
+
+# To build a program rt runs it too, here on the input that is stored beside it.
+target/bin/listing: $(sources)
+	cd crates/listing && rt run <stdin | cmp - stdout
+	mkdir -p target/bin
+	cp crates/listing/out/listing $@
 
 $(command): $(proved) $(shell find rust/command rust/softlode rust/Cargo.toml rust/Cargo.lock -type f)
 	cd rust && cargo build -q --release --offline -p command

@@ -4,13 +4,13 @@
 
 use std::path::Path;
 
-/// Links `../target/staticlib/libNAME.a`, seen from this file's directory, for each name: to all
+/// Links `../crates/NAME/out/libNAME.a`, seen from this file's directory, for each name: to all
 /// programs of the package that runs this, to its documentation tests, and to its dependants'.
 pub fn link(names: &[&str]) {
     let manifest = std::env::var("CARGO_MANIFEST_DIR").expect("cargo sets it");
-    let folder = Path::new(&manifest).join("../../target/staticlib");
-    println!("cargo::rustc-link-search=native={}", folder.display());
     for name in names {
+        let folder = Path::new(&manifest).join(format!("../../crates/{name}/out"));
+        println!("cargo::rustc-link-search=native={}", folder.display());
         let archive = folder.join(format!("lib{name}.a"));
         println!("cargo::rerun-if-changed={}", archive.display());
         println!("cargo::rustc-link-lib=static:-bundle={name}");

@@ -45,7 +45,7 @@ fn main() {
     // Cargo runs this in the package's folder; links are followed.
     let package = env::current_dir().expect("the package's folder");
     let (kind, file, built) = match variable("SOFTLODE_LINK").as_deref() {
-        None | Some("static") => ("static:-bundle", "libsoftlode.a", "target/staticlib"),
+        None | Some("static") => ("static:-bundle", "libsoftlode.a", "crates/softlode/out"),
         Some("dynamic") => ("dylib", "libsoftlode.so", "target/lib"),
         Some(other) => {
             return println!("cargo::error=SOFTLODE_LINK is {other}: it may be static or dynamic");

@@ -3,7 +3,7 @@
 
 use crate::claims::{Claim, Named};
 use crate::lexer::Token;
-use crate::repository::{Repository, Sources, place};
+use crate::repository::{KIT, Repository, Sources, place};
 
 /// The section of CLAIMS that lists the functions which take whatever comes.
 pub const ENTRY_POINTS: &str = "Entry points";
@@ -48,9 +48,8 @@ pub fn contracts(
 /// Paths in src/ or specs/ that lead to the proofs of a crate, which nobody reads.
 fn of_proofs(file: &str, tokens: &[Token]) -> Vec<String> {
     let leads = |at: &usize| {
-        let text = tokens[*at].text;
-        text.starts_with("Rattle·")
-            && (text.ends_with("·proofs") || tokens.get(at + 2).is_some_and(|t| t.text == "proofs"))
+        let words: Vec<&str> = tokens[*at..].iter().take(5).map(|token| token.text).collect();
+        matches!(words[..], ["Rattle", ".", krate, ".", "proofs"] if !KIT.contains(&krate))
     };
     let places = (0..tokens.len()).filter(leads).map(|at| tokens[at].line);
     places.map(|line| format!("{file}:{line}: words of a contract stand in proofs/")).collect()

@@ -1,6 +1,8 @@
 //! The must-fail edits: each changes what the prover reads, and tells the fact that it fails on.
 //! docs/EDITS.md is made of them.
 
+use std::collections::BTreeMap;
+
 use crate::lexer::{proof_tokens, source_tokens};
 use crate::repository::{EDITS, Repository};
 use crate::statements::compared;
@@ -8,30 +10,47 @@ use crate::statements::compared;
 const HEAD: &str = "\
 # Wrong programs that the prover must refuse
 
-Made from the files below crates/ by rust/audit, and compared by the gate, which tries each: `crate/name` is the edit crates/crate/must-fail/name.edit,
-one line of the crate's source, definitions or laws, with an import where it needs one. Each is refused at a fact that no longer holds, which its file
-tells, and never for want of a fact's name. docs/CLAIMS.md says which wrong programs they stand for.
+Made from the files below crates/ by rust/audit, and compared by the gate, which tries each: `crate/name` is the edit crates/crate/must-fail/name.edit
+of a line or a few of the crate's source, definitions or laws, with an import where it needs one. Each is refused at a fact that no longer holds, which
+its file tells, and never for want of a fact's name. docs/CLAIMS.md says which wrong programs they stand for.
 ";
 
 struct Edit<'a> {
     breaks: &'a str,
     fails_on: &'a str,
+    changes: Vec<Change<'a>>,
+}
+
+/// A text that stands once in a file, and what comes in its place.
+struct Change<'a> {
     file: &'a str,
     old: &'a str,
     new: &'a str,
 }
 
 fn read(text: &str) -> Result<Edit<'_>, &'static str> {
-    let mut lines = text.lines();
+    let mut lines = text.lines().filter(|line| !line.trim().is_empty());
     let mut next =
         |start: &str, why| lines.next().and_then(|line| line.strip_prefix(start)).ok_or(why);
-    Ok(Edit {
-        breaks: next("# ", "no line that says what it breaks")?,
-        fails_on: next("# fails on ", "no line that says what it fails on")?,
-        file: next("file: ", "no file")?,
-        old: next("old: ", "no line to change")?,
-        new: next("new: ", "nothing in its place")?,
-    })
+    let breaks = next("# ", "no line that says what it breaks")?;
+    let fails_on = next("# fails on ", "no line that says what it fails on")?;
+    let mut file = next("file: ", "no file")?;
+    let mut changes = Vec::new();
+    while let Some(line) = lines.next() {
+        if let Some(named) = line.strip_prefix("file: ") {
+            file = named;
+            continue;
+        }
+        let old = line.strip_prefix("old: ").ok_or("no line to change")?;
+        let new = lines.next().and_then(|line| line.strip_prefix("new:"));
+        let new = new.map(|line| line.strip_prefix(' ').unwrap_or(line));
+        changes.push(Change { file, old, new: new.ok_or("nothing in its place")? });
+    }
+    if changes.is_empty() {
+        Err("no line to change")
+    } else {
+        Ok(Edit { breaks, fails_on, changes })
+    }
 }
 
 /// What the prover reads of a file.
@@ -42,17 +61,23 @@ fn tokens(file: &str, text: &str) -> Result<Vec<String>, String> {
 
 /// What is amiss with one edit.
 fn judged(repository: &Repository, krate: &str, edit: &Edit) -> Result<(), String> {
-    let path = format!("crates/{krate}/{}", edit.file);
-    let before = repository.files.get(&path).ok_or(format!("there is no {path}"))?;
-    if !["src/", "specs/", "proofs/"].iter().any(|folder| edit.file.starts_with(folder)) {
-        return Err("it changes neither source nor definitions nor laws".to_string());
+    let mut changed: BTreeMap<String, String> = BTreeMap::new();
+    for Change { file, old, new } in &edit.changes {
+        let path = format!("crates/{krate}/{file}");
+        let stored = repository.files.get(&path).ok_or(format!("there is no {path}"))?;
+        if !["src/", "specs/", "proofs/"].iter().any(|folder| file.starts_with(folder)) {
+            return Err("it changes neither source nor definitions nor laws".to_string());
+        }
+        let text = changed.entry(path).or_insert_with(|| stored.clone());
+        if text.matches(old).count() != 1 {
+            return Err("what it changes does not stand there once".to_string());
+        }
+        *text = text.replacen(old, new, 1);
     }
-    if before.matches(edit.old).count() != 1 {
-        return Err("what it changes does not stand there once".to_string());
-    }
-    let after = before.replacen(edit.old, edit.new, 1);
-    if tokens(&path, before)? == tokens(&path, &after)? {
-        return Err("it changes nothing that the prover reads".to_string());
+    for (path, text) in &changed {
+        if tokens(path, repository.text(path))? == tokens(path, text)? {
+            return Err("it changes nothing that the prover reads".to_string());
+        }
     }
     Ok(())
 }

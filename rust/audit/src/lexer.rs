@@ -208,13 +208,13 @@ impl<'a> Lexer<'a> {
         }
     }
 
-    /// Whether the brace just read follows `requires` or `ensures`, with a label or without.
+    /// Whether the brace just read follows `requires` or `ensures`, with a star or without, and with
+    /// a name or without.
     fn opens_clause(&self) -> bool {
-        let clause = |back: usize| {
-            let place = self.tokens.len().checked_sub(back);
-            place.is_some_and(|n| ["requires", "ensures"].contains(&self.tokens[n].text))
-        };
-        clause(2) || clause(3)
+        let before = self.tokens.iter().rev().skip(1).take(3).map(|token| token.text);
+        before
+            .take_while(|text| !["{", "}", "(", ")", ";", ","].contains(text))
+            .any(|text| ["requires", "ensures"].contains(&text))
     }
 }
 

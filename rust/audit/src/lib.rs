@@ -18,7 +18,7 @@ use std::collections::{BTreeMap, BTreeSet};
 
 use claims::Claim;
 pub use contracts::UNSTATED;
-pub use libraries::{axioms, dependencies};
+pub use libraries::{axioms, dependencies, proofs};
 use repository::Sources;
 pub use repository::{CRATES, EDITS, Repository, STATEMENTS};
 

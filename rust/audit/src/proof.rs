@@ -171,7 +171,7 @@ impl<'a> Proof<'a> {
             .clone()
             .filter(|at| *at == range.start || self.tokens[*at].first)
             .filter(|at| self.tokens[*at].column <= first.column)
-            .filter(|at| ![")", "}"].contains(&self.word(*at)))
+            .filter(|at| ![")", "}", "]"].contains(&self.word(*at)))
             .collect();
         let ends = starts.iter().skip(1).copied().chain([range.end]);
         starts.iter().copied().zip(ends).map(|(start, end)| start..end).collect()
@@ -275,7 +275,7 @@ impl<'a> Proof<'a> {
             let kind = if field { Kind::Field } else { Kind::Constructor };
             self.declare(name, kind, whole, within);
             let text = bare(self.word(name)).to_string();
-            let signs: Vec<&str> = text.split('_').filter(|sign| !sign.is_empty()).collect();
+            let signs: Vec<&str> = text.split('◌').filter(|sign| !sign.is_empty()).collect();
             let read = (part.end..whole.end).any(|later| {
                 signs.contains(&bare(self.word(later))) && self.word(later - 1) != "."
             });

@@ -40,19 +40,21 @@ impl Repository {
     /// The crates of crates.txt, and whether each is a library.
     pub fn crates(&self) -> Vec<(&str, bool)> {
         let lines = self.text(CRATES).lines().filter(|line| !line.starts_with('#'));
-        let names = lines.filter_map(|line| line.split_once(':')).map(|(name, _)| name.trim());
-        names
+        let heads = lines.filter_map(|line| line.split_once(':')).map(|(head, _)| head);
+        heads
+            .filter_map(|head| head.split_whitespace().next())
             .map(|name| (name, self.files.contains_key(&format!("crates/{name}/src/lib.rt"))))
             .collect()
     }
 }
 
-/// Every file below a folder that is text.
+/// Every file below a folder that is text, but for what rt makes in a crate's out/.
 fn gather(root: &Path, folder: &Path, files: &mut BTreeMap<String, String>) -> Result<(), String> {
     let entries = fs::read_dir(folder).map_err(|e| format!("{}: {e}", folder.display()))?;
     for path in entries.flatten().map(|entry| entry.path()) {
         let ending = path.extension().and_then(|ending| ending.to_str()).unwrap_or("");
-        if path.is_dir() {
+        let made = path.ends_with("out") && folder.parent() == Some(&root.join("crates"));
+        if path.is_dir() && !made {
             gather(root, &path, files)?;
         } else if ["rt", "antt", "edit"].contains(&ending) {
             let text = fs::read_to_string(&path).map_err(|e| format!("{}: {e}", path.display()))?;
@@ -100,6 +102,9 @@ pub fn place(path: &str) -> Option<(&str, &str)> {
     Some((parts.next()?, parts.next()?))
 }
 
+/// The kit's own libraries of Rattle, on which every crate stands.
+pub const KIT: [&str; 2] = ["core", "std"];
+
 /// The last name of a file's module, with its dot.
 fn module_name(file: &str) -> String {
     let name = file.rsplit('/').next().unwrap_or(file);
@@ -132,10 +137,12 @@ impl Module {
 
     /// The module that a path leads through, which may go on to an item.
     pub fn on_the_way(path: &str, repository: &Repository) -> Module {
-        let Some(rest) = path.strip_prefix("Rattle·") else { return Module::Kit };
-        let (library, inner) = rest.split_once('.').unwrap_or((rest, ""));
-        let krate = library.split('·').next().unwrap_or(library);
-        let parts: Vec<&str> = inner.split('.').collect();
+        let mut names = path.split('.');
+        let (library, krate) = (names.next(), names.next().unwrap_or(""));
+        if library != Some("Rattle") || KIT.contains(&krate) {
+            return Module::Kit;
+        }
+        let parts: Vec<&str> = names.collect();
         if let ["specs", "declared", name, ..] = parts[..] {
             return Module::Declared { krate: krate.to_string(), name: name.to_string() };
         }

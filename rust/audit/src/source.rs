@@ -97,6 +97,7 @@ impl<'a> Source<'a> {
         let mut exported = false;
         loop {
             match self.word(at) {
+                "#" if self.word(at + 1) == "!" => return self.closed(at + 2),
                 "#" => {
                     let end = self.closed(at + 1)?;
                     exported |= (at..end).any(|at| self.word(at) == "no_mangle");
@@ -121,8 +122,9 @@ impl<'a> Source<'a> {
             }
             "use" => {
                 let end = self.find(at, &[";"])?;
-                let path = (at + 1..end).map(|at| self.word(at)).filter(|word| *word != ":");
-                self.uses.push(path.collect());
+                let words = (at + 1..end).map(|at| self.word(at)).filter(|word| *word != ":");
+                let words: Vec<&str> = words.collect();
+                self.used(&[], &words);
                 Ok(end + 1)
             }
             "mod" if self.word(at + 2) == ";" => Ok(at + 3),
@@ -139,6 +141,25 @@ impl<'a> Source<'a> {
                 Ok(end)
             }
             _ => Err(format!("line {}: an item that is not read", self.tokens[start].line)),
+        }
+    }
+
+    /// The paths of a plain `use`: what stands before its braces goes before each of their paths.
+    fn used(&mut self, before: &[&'a str], words: &[&'a str]) {
+        let mut depth = 0usize;
+        let parts = words.split(|word| {
+            depth += usize::from(*word == "{");
+            depth = depth.saturating_sub(usize::from(*word == "}"));
+            depth == 0 && *word == ","
+        });
+        let parts: Vec<&[&str]> = parts.filter(|part| !part.is_empty()).collect();
+        for part in parts {
+            let open = part.iter().position(|word| *word == "{").unwrap_or(part.len());
+            let path: Vec<&str> = before.iter().chain(&part[..open]).copied().collect();
+            match part.get(open + 1..part.len() - 1) {
+                Some(inside) => self.used(&path, inside),
+                None => self.uses.push(path),
+            }
         }
     }
 

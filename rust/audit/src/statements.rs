@@ -16,7 +16,7 @@ const HEAD: &str = "\
 
 Made from the sources by rust/audit, and compared by the gate: whatever is dropped, weakened or moved shows here. docs/CLAIMS.md says which sentence of
 the papers each of these states; the headings are its headings, and each contract and theorem stands where it is first named there. Below each are the
-words that it is over, with their files (below crates/), and a theorem's records, where they are first spoken of; words of the kit, as `_≡_`, `ℕ` and
+words that it is over, with their files (below crates/), and a theorem's records, where they are first spoken of; words of the kit, as `◌≡◌`, `ℕ` and
 `length`, mean what the kit says, and nothing else is called like one. At the end: the types of the code that are spoken of, and the sums of all files
 of definitions that are reached.
 
@@ -85,8 +85,8 @@ impl Words<'_> {
 /// Whether all signs of a name, which may be an operator's, are among the tokens.
 fn occurs(name: &str, texts: &BTreeSet<&str>) -> bool {
     texts.contains(name)
-        || name.contains('_')
-            && name.split('_').filter(|s| !s.is_empty()).all(|s| texts.contains(s))
+        || name.contains('◌')
+            && name.split('◌').filter(|s| !s.is_empty()).all(|s| texts.contains(s))
 }
 
 /// The page, and what is amiss with what is claimed.
@@ -336,7 +336,7 @@ fn files(reached: &BTreeSet<Home>) -> Vec<String> {
 /// The dotted paths that begin in a crate, in `use` lines and anywhere else.
 fn paths(tokens: &[Token]) -> BTreeSet<String> {
     let mut found = BTreeSet::new();
-    for at in (0..tokens.len()).filter(|at| tokens[*at].text.starts_with("Rattle·")) {
+    for at in (0..tokens.len()).filter(|at| tokens[*at].text == "Rattle") {
         let mut path = tokens[at].text.to_string();
         for pair in tokens[at + 1..].chunks(2) {
             match pair {

@@ -6,35 +6,52 @@ use std::collections::{BTreeMap, BTreeSet};
 use crate::proof::{Import, Kind};
 use crate::repository::{Module, Repository, SYMBOLS, Sources, place};
 
-/// Names that are there with no `use` line: the prelude's, as the kit's guide lists them,
+/// Names that are there with no `use` line: those of the language's own prelude,
 const PRELUDE: [&str; 18] = [
     "IsProp",
     "IsSet",
     "⊥",
     "absurd",
-    "¬_",
+    "¬◌",
     "Dec",
     "yes",
     "no",
     "Discrete",
-    "∥_∥₁",
-    "∣_∣₁",
+    "∥◌∥₁",
+    "∣◌∣₁",
     "squash₁",
     "Unit",
     "tt",
     "Id",
     "J",
     "Path",
-    "_×_",
+    "◌×◌",
 ];
 
 /// and those that every clause of a contract is lent.
-const LENT: [&str; 12] =
-    ["now", "⌜_⌝", "∀ₛ", "∃ₛ", "_∧ₛ_", "_∨ₛ_", "_→ₛ_", "_∗_", "_-∗_", "⊤ₛ", "⊥ₛ", "_>>=_"];
+const LENT: [&str; 15] = [
+    "result",
+    "⌜◌⌝",
+    "∀ₛ",
+    "∃ₛ",
+    "◌∧ₛ◌",
+    "◌∨ₛ◌",
+    "◌→ₛ◌",
+    "◌∗◌",
+    "◌-∗◌",
+    "⊤ₛ",
+    "⊥ₛ",
+    "◌>>=◌",
+    "◌>>◌",
+    "𝓤",
+    "𝓛",
+];
 
 /// Constructors: a pattern that has one is no new name.
-const CONSTRUCTORS: [&str; 12] =
-    ["true", "false", "zero", "suc", "[]", "∷", "some", "none", "tt", "yes", "no", "refl"];
+const CONSTRUCTORS: [&str; 16] = [
+    "true", "false", "zero", "suc", "[]", "∷", "some", "none", "tt", "yes", "no", "refl", "Some",
+    "None", "Ok", "Err",
+];
 
 /// What .ci/symbols lists openly: names with several homes, and other names for names of the kit.
 struct Listed<'a> {
@@ -177,7 +194,7 @@ impl Kit<'_> {
     /// Whether a bound name hides one of the kit's that the file has; a constructor in a pattern
     /// hides nothing.
     fn hidden(&self, name: &str, imports: &[Import]) -> bool {
-        let operator = format!("_{name}_");
+        let operator = format!("◌{name}◌");
         let brought =
             imports.iter().any(|import| [name, &operator].contains(&import.name.as_str()));
         (brought || PRELUDE.contains(&name)) && self.has(name) && !CONSTRUCTORS.contains(&name)

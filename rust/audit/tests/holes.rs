@@ -1,12 +1,12 @@
 //! Each way in which a repository was made to look proved: found in a small one, and the honest text
 //! beside it not.
 
-use audit::{Repository, axioms, dependencies, pages, sources};
+use audit::{Repository, axioms, dependencies, pages, proofs, sources};
 
 const MINUTES: &str = "\
 -- When an interval holds.
-use Prim.Native.Nat.{ℕ}
-use mathlib.Core.Bool.{Bool, true, false, _&&_}
+use Rattle.std.specs.Prelude.{ℕ}
+use mathlib.Core.Bool.{Bool, true, false, ◌&&◌}
 use lib.Dec.{leb, ltb}
 
 abbrev pub within : ℕ → ℕ → ℕ → Bool
@@ -14,29 +14,30 @@ within a b x = leb a x && ltb x b
 ";
 
 const LAWS: &str = "\
-use Prim.Native.Nat.{ℕ, _<_}
-use mathlib.Core.Path.{_≡_}
+use Rattle.std.specs.Prelude.{ℕ, ◌<◌, ◌≡◌}
 use mathlib.Core.Bool.{false}
-use Rattle·clock·specs.specs.Believed.Minutes.{within}
+use Rattle.clock.specs.Believed.Minutes.{within}
 
 -- nothing lies in an empty interval
 module _ (a : ℕ) where
   pub empty : (x : ℕ) → within a a x ≡ false
-  empty x = search needs
+  empty x = search rules
 ";
 
 const SOURCE: &str = "\
 // Whether a minute lies in an interval.
-ghost use mathlib.Core.Path.{_≡_};
-ghost use Rattle·clock·specs.specs.Believed.Minutes.{within};
+#![tactic(auto)]
+
+ghost use Rattle.std.specs.Prelude.{◌≡◌};
+ghost use Rattle.clock.specs.Believed.Minutes.{within};
 
 pub struct Told {
     pub yes: bool,
 }
 
-#[no_mangle]
+#[unsafe(no_mangle)]
 pub extern \"C\" fn softlode_inside(a: u32, b: u32, x: u32) -> Told
-    ensures { λ r. ⌜ r .yes ≡ within a b x ⌝ }
+    ensures { result.yes ≡ within a b x }
 {
     let quote = b'\"';
     told(a <= x && x < b)
@@ -132,7 +133,7 @@ fn an_honest_repository_passes() {
     let page = &honest().files["docs/STATEMENTS.md"];
     for said in [
         "#### `softlode_inside` (clock/src/lib.rt)",
-        "ensures { λ r. ⌜ r .yes ≡ within a b x ⌝ }",
+        "ensures { result.yes ≡ within a b x }",
         "module _ (a : ℕ) where\n  pub empty : (x : ℕ) → within a a x ≡ false",
         "`within` clock/specs/Believed/Minutes.antt",
         "pub struct Told {\n    pub yes: bool,\n}",
@@ -147,7 +148,9 @@ fn an_honest_repository_passes() {
 fn comments_layout_and_proofs_are_no_claims() {
     nothing(after(SPECS, "-- When", "-- Whether"));
     nothing(after(RT, "// Whether", "/* nested /* quoted \" */ */ // Whether"));
-    nothing(after(PROOFS, "search needs", "omega arith"));
+    nothing(after(PROOFS, "search rules", "omega arith"));
+    let cases = "step c = elim c.branch [\n  | then w ↦ w.0\n  | else w ↦ w.1\n]\n\nmodule";
+    nothing(after(PROOFS, "module", cases));
 }
 
 #[test]
@@ -169,7 +172,7 @@ fn a_definition_or_a_type_changed() {
 
 #[test]
 fn a_theorem_in_words_of_its_own_file() {
-    let imported = "use Rattle·clock·specs.specs.Believed.Minutes.{within}\n\n";
+    let imported = "use Rattle.clock.specs.Believed.Minutes.{within}\n\n";
     let own = format!("{imported}pub same : ℕ → ℕ\nsame x = x\n\n");
     nothing(after(PROOFS, imported, &own));
     let over = changed(PROOFS, &[(imported, &own), ("within a a x", "within a a (same x)")]);
@@ -178,26 +181,26 @@ fn a_theorem_in_words_of_its_own_file() {
 
 #[test]
 fn a_contract_weakened() {
-    some(after(RT, "r .yes ≡ within a b x", "r ≡ r"), "docs/STATEMENTS.md");
+    some(after(RT, "result.yes ≡ within a b x", "result ≡ result"), "docs/STATEMENTS.md");
     some(after(RT, "Minutes.{within}", "Minutes.{without as within}"), "docs/STATEMENTS.md");
 }
 
 #[test]
 fn a_requires_however_it_is_hidden() {
-    let asking = "    requires { ⌜ a ≡ 3 ⌝ }\n    ensures";
+    let asking = "    requires { a ≡ 3 }\n    ensures";
     for hiding in [
         asking,
-        "    requires\n    { ⌜ a ≡ 3 ⌝ -- }\n    }\n    ensures",
-        "    requires small { ⌜ a ≡ 3 ⌝ } /* } */ ensures",
+        "    requires\n    { a ≡ 3 -- }\n    }\n    ensures",
+        "    requires small { a ≡ 3 } /* } */ ensures",
     ] {
         some(hidden(RT, "    ensures", hiding), "an entry point has a requires");
     }
     // A quote and a comment's mark in bytes, which open nothing.
-    let before = "pub fn first() -> u8\n    ensures { λ r. ⌜ r ≡ r ⌝ }\n{\n    let q = b'\"';\n    let c = b\"/*\";\n    q\n}\n\n#[no_mangle]";
-    let asked = changed(RT, &[("    ensures", asking), ("#[no_mangle]", before)]);
+    let before = "pub fn first() -> u8\n    ensures { result ≡ result }\n{\n    let q = b'\"';\n    let c = b\"/*\";\n    q\n}\n\n#[unsafe(no_mangle)]";
+    let asked = changed(RT, &[("    ensures", asking), ("#[unsafe(no_mangle)]", before)]);
     some(sources(&made(asked)), "an entry point has a requires");
     // An entry point that is not exported.
-    let inner = ("#[no_mangle]\npub extern \"C\" fn", "pub fn");
+    let inner = ("#[unsafe(no_mangle)]\npub extern \"C\" fn", "pub fn");
     some(sources(&made(changed(RT, &[("    ensures", asking), inner]))), "has a requires");
 }
 
@@ -208,14 +211,13 @@ fn an_exported_function_that_claims_do_not_name() {
 
 #[test]
 fn a_function_without_an_ensures_or_a_body() {
-    let clause = "    ensures { λ r. ⌜ r .yes ≡ within a b x ⌝ }\n";
+    let clause = "    ensures { result.yes ≡ within a b x }\n";
     some(hidden(RT, clause, ""), "a function of a library has no ensures");
     some(hidden(RT, clause, &format!("    // {clause}")), "a function of a library has no ensures");
-    let method =
-        "impl Told {\n    pub fn step(self) -> Told {\n        self\n    }\n}\n\n#[no_mangle]";
-    some(hidden(RT, "#[no_mangle]", method), "a function of a library has no ensures");
-    let array = "fn sets(s: &[u8; 4]) -> [u64; 33] {\n    [0; 33]\n}\n\n#[no_mangle]";
-    some(hidden(RT, "#[no_mangle]", array), "a function of a library has no ensures");
+    let method = "impl Told {\n    pub fn step(self) -> Told {\n        self\n    }\n}\n\n#[unsafe(no_mangle)]";
+    some(hidden(RT, "#[unsafe(no_mangle)]", method), "a function of a library has no ensures");
+    let array = "fn sets(s: &[u8; 4]) -> [u64; 33] {\n    [0; 33]\n}\n\n#[unsafe(no_mangle)]";
+    some(hidden(RT, "#[unsafe(no_mangle)]", array), "a function of a library has no ensures");
     let declared = "extern \"C\" {\n    fn getenv(name: u64) -> u64;\n}\n\npub struct";
     some(hidden(RT, "pub struct", declared), "a function without a body");
 }
@@ -223,11 +225,11 @@ fn a_function_without_an_ensures_or_a_body() {
 #[test]
 fn words_of_proofs() {
     let told = "words of a contract stand in proofs/";
-    let cited = "ghost use Rattle·clock·proofs.proofs.Laws.{empty};\n\npub struct";
+    let cited = "ghost use Rattle.clock.proofs.Laws.{empty};\n\npub struct";
     some(hidden(RT, "\npub struct", cited), told);
-    let path = "within a b x = Rattle·other.proofs.Laws.inside a b x";
+    let path = "within a b x = Rattle.other.proofs.Laws.inside a b x";
     some(hidden(SPECS, "within a b x = leb a x && ltb x b", path), told);
-    let broken = "use\n  Rattle·other.proofs.Laws.{odd}\n\nabbrev";
+    let broken = "use\n  Rattle.other.proofs.Laws.{odd}\n\nabbrev";
     some(hidden(SPECS, "\nabbrev", broken), told);
 }
 
@@ -237,7 +239,7 @@ fn a_symbol_defined() {
         "true : Bool\ntrue = false",
         "pub\n  true\n  : Bool\ntrue = false",
         "unfoldable pub leb : ℕ → ℕ → Bool\nleb a b = false",
-        "pub _≡_ : {A : Type 0} → A → A → Type 0",
+        "pub ◌≡◌ : {A : Type 0} → A → A → Type 0",
         "pub ⊥ : Type 0\n⊥ = Unit",
         "data Answer : Type 0 where\n  yes maybe : Answer",
         "data Answer : Type 0 where\n  maybe : Answer\n  leb : Answer",
@@ -249,8 +251,8 @@ fn a_symbol_defined() {
     }
     some(hidden("crates/clock/specs/Lib.antt", "pub mod", "pub mod lib\npub mod"), "called lib");
     let called =
-        "fn leb(n: u32) -> u32\n    ensures { λ r. ⌜ r ≡ n ⌝ }\n{\n    n\n}\n\n#[no_mangle]";
-    some(hidden(RT, "#[no_mangle]", called), "leb is declared");
+        "fn leb(n: u32) -> u32\n    ensures { result ≡ n }\n{\n    n\n}\n\n#[unsafe(no_mangle)]";
+    some(hidden(RT, "#[unsafe(no_mangle)]", called), "leb is declared");
     some(hidden(RT, "pub struct Told {", "pub struct Bool {"), "Bool is declared");
 }
 
@@ -270,7 +272,7 @@ fn a_symbol_bound() {
     let brought = ("ghost use Rattle", "ghost use lib.Dec.{leb};\nghost use Rattle");
     let parameter = ("(a: u32", "(leb: u32");
     some(sources(&made(changed(RT, &[brought, parameter]))), "a parameter hides leb");
-    some(hidden(RT, "(a: u32", "(now: u32"), "a parameter hides now");
+    some(hidden(RT, "(a: u32", "(result: u32"), "a parameter hides result");
 }
 
 #[test]
@@ -279,11 +281,11 @@ fn a_symbol_from_elsewhere_or_under_another_name() {
         hidden(SPECS, "use lib.Dec.{leb, ltb}", &format!("use lib.Dec.{{leb, ltb}}\n{more}"))
     };
     for brought in [
-        "use Rattle·odd.specs.Odd.{leb}",
-        "use Rattle·odd.specs.Odd.{same as leb, other}",
-        "use\n  Rattle·odd.specs.{Odd.leb}",
-        "use Rattle·odd.specs.lib",
-        "use Rattle·odd.specs.Odd as lib",
+        "use Rattle.odd.specs.Odd.{leb}",
+        "use Rattle.odd.specs.Odd.{same as leb, other}",
+        "use\n  Rattle.odd.specs.{Odd.leb}",
+        "use Rattle.odd.specs.lib",
+        "use Rattle.odd.specs.Odd as lib",
     ] {
         some(with(brought), "is brought in from");
     }
@@ -323,8 +325,8 @@ fn names_that_claims_make_up() {
         "there is no clock::outside",
     );
     some(hidden(PAGE, "`clock/end_counts`", "`clock/begin_counts`"), "there is no edit");
-    some(hidden(PAGE, "over `within`", "over `r .yes ≡ without ..`"), "no contract says");
-    nothing(hidden(PAGE, "over `within`", "over `r .yes ≡ within ..`"));
+    some(hidden(PAGE, "over `within`", "over `result.yes ≡ without ..`"), "no contract says");
+    nothing(hidden(PAGE, "over `within`", "over `result.yes ≡ within ..`"));
 }
 
 #[test]
@@ -334,12 +336,12 @@ fn what_a_reader_must_believe() {
     let folder = "crates/clock/specs/Believed";
     unreached.files.insert(format!("{folder}/Odd.antt"), odd.to_string());
     some(sources(&made(unreached)), "Odd.antt: no claim is over it");
-    let over = "use Rattle·clock·specs.specs.Odd.{never}\n\nabbrev";
+    let over = "use Rattle.clock.specs.Odd.{never}\n\nabbrev";
     let mut inner = changed(SPECS, &[("\nabbrev", over)]);
     inner.files.insert("crates/clock/specs/Odd.antt".to_string(), odd.to_string());
     some(sources(&made(inner)), "which nobody is asked to believe");
     let brought =
-        ("ghost use Rattle", "ghost use Rattle·clock·specs.specs.Odd.{never};\nghost use Rattle");
+        ("ghost use Rattle", "ghost use Rattle.clock.specs.Odd.{never};\nghost use Rattle");
     let mut exported = changed(RT, &[brought, ("≡ within a b x", "≡ never")]);
     exported.files.insert("crates/clock/specs/Odd.antt".to_string(), odd.to_string());
     some(sources(&made(exported)), "not believed");
@@ -355,6 +357,14 @@ fn edits_that_try_nothing() {
     some(hidden(EDITED, "src/lib.rt", "src/other.rt"), "there is no crates/clock/src/other.rt");
     some(hidden(EDITED, "# fails on", "# at"), "no line that says what it fails on");
     some(after(EDITED, "an end", "the end"), "docs/EDITS.md");
+    let more = |more: &str| hidden(EDITED, "x <= b)\n", &format!("x <= b)\n{more}"));
+    some(more("old: nowhere\nnew: b\n"), "does not stand there once");
+    some(more("old: told(a <= x && x <= b)\n"), "nothing in its place");
+    some(more("file: specs/Odd.antt\nold: a\nnew: b\n"), "there is no");
+    some(more("odd: told\n"), "no line to change");
+    let definition = "file: specs/Believed/Minutes.antt\nold: leb a x\nnew: ";
+    nothing(more(&format!("{definition}leb x a\n")));
+    some(more(&format!("{definition}leb a  x\n")), "changes nothing that the prover reads");
     let listed = format!("## Tried once\n\n`clock/end_counts`\n");
     some(hidden(PAGE, "## Demand 1", &format!("{listed}\n## Demand 1")), "and is there");
 }
@@ -369,7 +379,7 @@ fn what_cannot_be_read() {
 #[test]
 fn a_library_that_uses_what_is_assumed() {
     let mut repository = honest();
-    let crates = "# all\nclock: libc\nlisting: clock io libc\n";
+    let crates = "# all\nclock staticlib: libc\nlisting: clock io libc\n";
     repository.files.insert("crates.txt".to_string(), crates.to_string());
     assert_eq!(dependencies(&repository), ["crates.txt: the library clock uses libc"]);
 }
@@ -380,4 +390,26 @@ fn an_axiom() {
         "axioms libc: libc::read (1 of the 50 declared)\nlogic=proved functions=8 axioms=1 sum=0\n";
     assert_eq!(axioms("rota", printed).len(), 2);
     assert_eq!(axioms("rota", "logic=proved functions=8 sum=0\n").len(), 0);
+    assert_eq!(axioms("rota", "axioms libc: none reached of the 128 declared\n").len(), 0);
+}
+
+#[test]
+fn what_the_proofs_printed() {
+    let repository = honest();
+    let said = |line: &str| format!("== clock\n{line}\nrt: clock proved\nrt: ok\n");
+    let proved = "logic=proved functions=1 sum=0";
+    nothing(proofs(&repository, &said(proved), &[]));
+    nothing(proofs(&repository, "rt: clock is kept: an earlier run proved it\n", &[]));
+    some(proofs(&repository, "rt: ok\n", &[]), "the gate says not 'logic=proved functions=1'");
+    for line in
+        ["logic=proved functions=0 sum=0", "logic=proved functions=12 sum=0", "logic=not-proved"]
+    {
+        some(proofs(&repository, &said(line), &[]), "the gate says not");
+        let archive = ("clock".to_string(), format!("{proved}\n{line}\n"));
+        some(proofs(&repository, &said(proved), &[archive]), "its archive says not");
+    }
+    let axiom = "axioms libc: libc::read (1 of the 50 declared)\nlogic=proved functions=1 axioms=1";
+    some(proofs(&repository, &said(axiom), &[]), "rests on an axiom");
+    let archive = ("clock".to_string(), format!("{axiom}\n"));
+    some(proofs(&repository, &said(proved), &[archive]), "rests on an axiom");
 }
