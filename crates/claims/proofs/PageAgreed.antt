@@ -7,10 +7,9 @@ use mathlib.Core.Path.{◌≡◌, refl, sym, ap, ◌∙◌}
 use mathlib.Core.Option.{Option}
 use mathlib.Core.List.{List, map}
 use native.Mathlib.Omega.{arith}
-use lib.Dec.{eqb, ltb}
+use lib.Dec.{eqb}
 use lib.ListN.{length}
 use Rattle.ground.specs.Believed.Choice.{pick}
-use Rattle.ground.specs.Believed.Judgement.{refuse, ◌or_else◌}
 use Rattle.ground.specs.Believed.Outcome.{given}
 use Rattle.minutes.specs.Believed.Minutes.{E}
 use Rattle.policy.specs.Believed.Policy.{Policy, arguments_judged, question}
@@ -26,9 +25,8 @@ use Rattle.table.specs.Believed.TableBytes.{table_of}
 use Rattle.table.specs.Believed.TableRefusals.{table_judged}
 use Rattle.rewrite_rules.specs.Believed.Rewriting.{unjoined, rewrite}
 use Rattle.rewrite_rules.proofs.RewritingTheorems.{same_answer}
-use Rattle.source.specs.Believed.Lent.{judged_as}
 use Rattle.source.specs.declared.Kind.TheVariants as Kind
-use Rattle.host_page.specs.Believed.Page.{place_told, answered, page_judged, page_after}
+use Rattle.host_page.specs.Believed.Page.{answered, page_judged, page_after}
 use Rattle.host_page.specs.declared.Question.{Question}
 use Rattle.claims.specs.Believed.Demand3.{Demand3}
 

@@ -5,23 +5,19 @@
 -- Assumes nothing.
 use Prim.Native.Nat.{ℕ, zero, suc, ◌+◌, ◌^◌, ◌<◌, ◌≤◌}
 use mathlib.Core.Path.{◌≡◌, refl, sym, ap, ap₂, ◌∙◌}
-use mathlib.Core.Logic.{◌↔◌}
 use mathlib.Core.Bool.{Bool, true, false, not, ◌&&◌}
 use native.Mathlib.Nat.{le_refl}
 use native.Mathlib.Omega.{arith}
 use borrow.Author.Tests.{lt-leb, ltb-true, ltb-false, le-ltb}
-use lib.Dec.{leb, ltb}
-use lib.Pow.{pow_mono}
+use lib.Dec.{ltb}
 use Rattle.ground.specs.Believed.Judgement.{refuse, ◌or_else◌}
 use Rattle.ground.specs.Believed.Outcome.{given}
 use Rattle.ground.specs.Believed.Search.{one, count_below}
-use Rattle.ground.proofs.BoolLaws.{or_no, clash}
-use Rattle.ground.proofs.JudgementLaws.{refuse-no}
+use Rattle.ground.proofs.BoolLaws.{clash}
 use Rattle.bitset.specs.Believed.Sets.{has, difference, count}
-use Rattle.bitset.proofs.SetLaws.{has-below, has-difference, has-past}
+use Rattle.bitset.proofs.SetLaws.{has-difference, has-past}
 use Rattle.minutes.specs.Believed.Minutes.{E}
-use Rattle.policy.specs.Believed.Policy.{Policy, holds_any}
-use Rattle.policy.specs.Believed.Steady.{steady_over}
+use Rattle.policy.specs.Believed.Policy.{Policy}
 use Rattle.policy.proofs.SteadyLaws.{steady-all, steady-join, steady-small, steady-in, steady-out}
 use Rattle.machine.specs.Believed.Machine.{Step, advance, closed, state, staying, state_judged, advance_judged, call_judged, given_by, left_by, settled, step_by, machine_step}
 use Rattle.machine.specs.declared.Service.{Service}

@@ -18,7 +18,7 @@ use Rattle.ground.specs.Believed.Judgement.{refuse, ◌or_else◌}
 use Rattle.ground.specs.Believed.Outcome.{outcome}
 use Rattle.endian.specs.Believed.Numbers.{Bytes}
 use Rattle.policy.specs.Believed.Policy.{Policy, question}
-use Rattle.rota.specs.Believed.Rota.{Rota, answer, policy_of}
+use Rattle.rota.specs.Believed.Rota.{Rota, policy_of}
 use Rattle.rota.specs.Believed.RotaBytes.{format_of, rota_bytes, rota_of}
 use Rattle.rota.specs.Believed.RotaRefusals.{rota_judged}
 use Rattle.rota.specs.RotaWell.{RotaWell}

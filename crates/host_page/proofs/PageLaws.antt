@@ -15,7 +15,7 @@ use borrow.Author.Tests.{eq-eqb, ne_eqb}
 use lib.Dec.{ltb, eqb}
 use lib.ListN.{length, get_or, set}
 use Rattle.ground.specs.Believed.Choice.{pick}
-use Rattle.ground.specs.Believed.Judgement.{refuse, ◌or_else◌}
+use Rattle.ground.specs.Believed.Judgement.{◌or_else◌}
 use Rattle.ground.specs.Believed.Outcome.{Outcome}
 use Rattle.ground.proofs.BoolLaws.{pick_true, pick-false}
 use Rattle.ground.proofs.JudgementLaws.{or_else-ne, refuse-yes, refuse-none}

@@ -1,5 +1,5 @@
 -- How many rows there are, counted by the marks alone.
---     starts-same, starts-one, starts-most                 a field that begins no row, or one
+--     starts_none, starts-same, starts-one, starts-most    a field that begins no row, or one
 --     runs-rows                                            the count is the number of rows that are written
 --     runs-stretches, stretches-rows                       the same by stretches: a stretch of cells with one mark counts once
 --     InCount, era-most                                    stretches of an era that are counted; no more rows than stretches
@@ -33,6 +33,9 @@ use Rattle.rewrite_rows.specs.Parts.{field_marks, role_rows, starts_row, runs_in
 use Rattle.rewrite_rows.proofs.FieldLaws.{gap, gaps-start, mark-is, marks-long, marks-append, marked-front}
 
 -- ---- one field
+
+pub starts_none : (m run : ℕ) → m ≡ 0 → starts_row m run ≡ 0
+starts_none m run e = rw (eq-eqb m 0 e) refl
 
 pub starts-same : (m run : ℕ) → m ≡ run → starts_row m run ≡ 0
 starts-same m run e = rw (eq-eqb m run e) (go (eqb m 0))

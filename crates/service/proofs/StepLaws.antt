@@ -5,7 +5,6 @@ use mathlib.Core.Path.{◌≡◌, refl, sym, ap, ap₂, ◌∙◌}
 use mathlib.Core.Bool.{Bool, true, false}
 use mathlib.Core.Option.{Option}
 use borrow.Author.Tests.{leb-false}
-use native.Mathlib.Omega.{arith}
 use lib.Dec.{leb}
 use Rattle.ground.specs.Believed.Judgement.{refuse, ◌or_else◌}
 use Rattle.ground.specs.Believed.Outcome.{Outcome, refused, given}

@@ -1,5 +1,4 @@
 -- Each cell has those of the records so far whose pairs hold in it.
-use Prim.Native.Nat.{◌-◌}
 use mathlib.Core.Path.{refl, ◌∙◌}
 use native.Mathlib.Omega.{arith}
 use Rattle.hours_reader.proofs.WalkLaws.{passed_none, passed-more, passed-end}

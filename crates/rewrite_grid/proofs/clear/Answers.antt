@@ -1,4 +1,3 @@
-use Prim.Native.Nat.{◌-◌}
 use native.Mathlib.Omega.{arith}
 use Rattle.rewrite_grid.proofs.JoinLaws.{clear_none, clear-more, clear-all}
 use Rattle.rewrite_grid.proofs.clear.Goals as goal

@@ -1,5 +1,4 @@
 -- The records so far whose dates hold are gathered.
-use Prim.Native.Nat.{◌-◌}
 use native.Mathlib.Omega.{arith}
 use mathlib.Core.Path.{◌∙◌}
 use Rattle.hours_reader.proofs.WalkLaws.{gather_none, gather-in, gather-out, gather-all}

@@ -1,5 +1,4 @@
 -- The cells so far are done.
-use Prim.Native.Nat.{◌-◌}
 use native.Mathlib.Nat.{le_refl}
 use native.Mathlib.Omega.{arith}
 use Rattle.rewrite_grid.proofs.JoinLaws.{fill_start, fill-in, fill-out, fill_stop, fill-all, fill-behind}

@@ -1,5 +1,4 @@
 -- The pairs so far are done, and the cells before `from` lie before the next.
-use Prim.Native.Nat.{◌-◌}
 use native.Mathlib.Omega.{arith}
 use Rattle.rewrite_cuts.proofs.RecordLaws.{few-hours}
 use Rattle.rewrite_grid.proofs.JoinLaws.{record-well, pair-start, pair-ready, pair-more, pairs-joined}

@@ -1,5 +1,4 @@
 use native.Mathlib.Omega.{arith}
-use Prim.Native.Nat.{◌-◌}
 use Rattle.rewrite_masks.proofs.RowLaws.{numbering_start, turn-room, kinds-room, lens-room, numbering-turn, numbering-end}
 use Rattle.rewrite_masks.proofs.number_row.Goals as goal
 

@@ -1,5 +1,4 @@
 use native.Mathlib.Omega.{arith}
-use Prim.Native.Nat.{◌-◌}
 use Rattle.rewrite_masks.proofs.RowLaws.{alike-one, alike-more}
 use Rattle.rewrite_masks.proofs.stretch.Goals as goal
 use Rattle.rewrite_masks.proofs.stretch.Goals.{then-most-gt255, else-most-gt255}

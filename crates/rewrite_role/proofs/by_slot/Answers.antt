@@ -2,7 +2,7 @@
 use Rattle.rewrite_role.proofs.SlotLaws.{slot_at}
 use native.Mathlib.Omega.{arith}
 use mathlib.Core.Path.{◌≡◌, ap, ◌∙◌}
-use Prim.Native.Nat.{ℕ, ◌-◌}
+use Prim.Native.Nat.{ℕ}
 use Rattle.rewrite_sets.specs.Role.{by_slot}
 use Rattle.rota.specs.Believed.RotaBytes.{row_at}
 use Rattle.ground.specs.Believed.Sequence.{list_of}

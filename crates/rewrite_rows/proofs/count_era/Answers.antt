@@ -1,6 +1,5 @@
 -- Rows so far, and those that begin in the stretches that are left, are all.
 use native.Mathlib.Omega.{arith}
-use Prim.Native.Nat.{◌-◌}
 use Rattle.rewrite_rows.specs.Parts.{field_marks}
 use Rattle.rewrite_rows.proofs.FieldLaws.{marks-long}
 use Rattle.rewrite_rows.proofs.CountLaws.{starts-most, count-start, count_turn, count-end}

@@ -1,6 +1,6 @@
 -- Eras so far are counted.
 use native.Mathlib.Omega.{arith}
-use Prim.Native.Nat.{◌+◌, ◌-◌}
+use Prim.Native.Nat.{◌+◌}
 use Rattle.rewrite_grid.proofs.StretchLaws.{ends-rise}
 use Rattle.rewrite_rows.specs.Parts.{field_marks}
 use Rattle.rewrite_rows.proofs.FieldLaws.{marks-long, fewer-marks}

@@ -1,7 +1,6 @@
 -- What is left of the entries, written from here, is the whole.
 use native.Mathlib.Omega.{arith}
 use mathlib.Core.Path.{refl}
-use Prim.Native.Nat.{◌-◌}
 use Rattle.rewrite_index.proofs.EntryLaws.{left-turn, left-none}
 use Rattle.rewrite_rows.proofs.WriteLaws.{entry-long, writing_start, writing-one, writing-end}
 use Rattle.rewrite_rows.proofs.write_entries.Goals as goal

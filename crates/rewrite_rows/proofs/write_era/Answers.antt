@@ -1,7 +1,6 @@
 -- A run of cells with one mark goes on over a stretch, or ends before it.
 use native.Mathlib.Omega.{arith}
 use mathlib.Core.Path.{◌∙◌}
-use Prim.Native.Nat.{◌-◌}
 use Rattle.rewrite_rows.proofs.FieldLaws.{last-room, last-from, last_written}
 use Rattle.rewrite_rows.proofs.EraLaws.{era-begun, stretch-within, stretch-kept, stretch-room, stretch-written, era-full}
 use Rattle.rewrite_rows.proofs.write_era.Goals as goal

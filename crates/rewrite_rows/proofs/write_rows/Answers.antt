@@ -1,6 +1,5 @@
 -- What is left of the role's rows, written from here, is the whole.
 use native.Mathlib.Omega.{arith}
-use Prim.Native.Nat.{◌-◌}
 use Rattle.rewrite_rows.proofs.EraLaws.{role-begun, role-written, era-marks, era-stretched, era-room, era-written}
 use Rattle.rewrite_rows.proofs.write_rows.Goals as goal
 

@@ -1,5 +1,4 @@
 -- The sweep has come from x to y.
-use Prim.Native.Nat.{◌-◌}
 use native.Mathlib.Omega.{arith}
 use Rattle.minutes.specs.Believed.Minutes.{E}
 use Rattle.policy.proofs.SteadyLaws.{swept_none, swept-more, swept_all, swept-over}

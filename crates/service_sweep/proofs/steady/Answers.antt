@@ -1,5 +1,4 @@
 -- No minute, one minute; else those who hold a permission to before the next cycle are left.
-use Prim.Native.Nat.{◌-◌}
 use mathlib.Core.Path.{ap, ◌∙◌}
 use mathlib.Core.Logic.{⊎_elim}
 use native.Mathlib.Nat.{le_refl, le_antisymm}

@@ -2,7 +2,6 @@
 use mathlib.Core.Path.{sym, ap, ◌∙◌}
 use native.Mathlib.Omega.{arith}
 use lib.Seq.{sets}
-use borrow.Author.Tests.{not-true}
 use Rattle.tidy_kinds.proofs.OrderedLaws.{in-order-long, in-order-bytes}
 use Rattle.tidy_kinds.proofs.put_kind.Goals as goal
 
