@@ -4,7 +4,7 @@
 --     derived-entries, marked-rows          the loop finds the entries and the rows of the rules; for all fields: role-entries, role-rows
 --     derived-length, marks-length, marks-most    how many, and that each mark names one of the derived roles
 -- Assumes nothing.
-use Prim.Native.Nat.{ℕ, zero, suc, ◌+◌, ◌≤◌}
+use Prim.Native.Nat.{ℕ, suc, ◌+◌, ◌≤◌}
 use mathlib.Core.Path.{◌≡◌, refl, ap, ap₂, ◌∙◌}
 use mathlib.Core.Option.{Option, none, some}
 use mathlib.Core.List.{List, [], ◌∷◌, map}

@@ -5,19 +5,21 @@
 use Prim.Native.Nat.{ℕ, ◌+◌, ◌*◌, ◌≤◌, ◌<◌}
 use mathlib.Core.Path.{◌≡◌, refl, sym, ap, ◌∙◌}
 use mathlib.Core.List.{List}
-use mathlib.Core.Bool.{Bool, true, false}
+use mathlib.Core.Bool.{Bool, true, false, ◌&&◌, ◌||◌, and-true, and-false}
 use native.Mathlib.Omega.{arith}
-use borrow.Author.Tests.{eq-eqb, ne_eqb}
-use lib.Dec.{ltb}
+use borrow.Author.Tests.{eqb-true, eqb-false, eq-eqb, ne_eqb, le-leb, lt-leb}
+use lib.Dec.{leb, ltb, eqb}
+use Rattle.ground.specs.Believed.Choice.{pick}
 use Rattle.ground.specs.Believed.Judgement.{refuse, ◌or_else◌, in_turn}
 use Rattle.ground.specs.Believed.Search.{any_below}
 use Rattle.ground.proofs.SearchLaws.{any-no}
 use Rattle.ground.proofs.JudgementLaws.{turns-any, turns_same, or_else-ne, or_else-none, refuse-yes, refuse-none}
-use Rattle.endian.specs.Believed.Numbers.{u8_at}
+use Rattle.endian.specs.Believed.Numbers.{Bytes, u8_at}
 use Rattle.rota_rows.specs.Rows.{row_out}
 use Rattle.hours.specs.Believed.Hours.{dangling, ref_of}
 use Rattle.hours.specs.declared.HoursRef.{HoursRef}
-use Rattle.rota.specs.Believed.RotaBytes.{format_of, hours_of, roles_of, roles_at, row_at}
+use Rattle.hours.specs.declared.HoursRef.TheVariants.{Always, Numbered}
+use Rattle.rota.specs.Believed.RotaBytes.{format_of, hours_of, roles_of, roles_at, row_at_byte, row_at}
 use Rattle.rota.specs.Believed.Order.{key_of, least}
 use Rattle.rota.proofs.OrderLaws.{under-yes, under-no}
 use Rattle.rota.specs.Believed.RotaRefusals.{role_judged, row_bad, row_falls, row_judged}
@@ -27,13 +29,25 @@ module _ (s : List ℕ) (h : ℕ) (eh : h ≡ hours_of s) where
   unfolding role_judged
   role-judged at k r d ea er ed = rw (ed, er, ea, eh)
 
-  module _ (n top roles at : ℕ) (er : roles ≡ roles_of s) where
+  -- a reference that dangles is neither below h nor 255
+  reference : (x : ℕ) → x < 256 → (leb h x && leb x 254) ≡ dangling h (ref_of x)
+  unfolding ref_of dangling
+  reference x l = go (eqb x 255) refl
+    where
+      go : (b : Bool) → eqb x 255 ≡ b → (leb h x && leb x 254) ≡ dangling h (pick b Always (Numbered x))
+      go true e = unfold dangling in ap (λ (b : Bool). leb h x && b) (lt-leb x 254 (omega (arith, eqb-true x 255 e))) ∙ and-false (leb h x)
+      go false e = unfold dangling in ap (λ (b : Bool). leb h x && b) (le-leb x 254 (omega (arith, eqb-false x 255 e))) ∙ and-true (leb h x)
+
+  out-as : (top roles at : ℕ) → Bytes s → row_out top roles h s at ≡ row_bad top roles h (row_at_byte s at)
+  unfolding row_out row_bad
+  out-as top roles at bytes = ap (λ (b : Bool). leb top (u8_at s at) || leb roles (u8_at s (at + 1)) || b) (reference (u8_at s (at + 2)) (bytes (at + 2)))
+
+  module _ (n top roles at : ℕ) (bytes : Bytes s) (er : roles ≡ roles_of s) where
     abbrev out : ℕ → Bool
     out k = row_out top roles h s (at + 3 * k)
 
     bad-as : (k : ℕ) → row_bad top (roles_of s) (hours_of s) (row_at s at k) ≡ out k
-    unfolding row_out row_bad
-    bad-as k = rw (← er, ← eh) refl
+    bad-as k = rw (← er, ← eh) (sym (out-as top roles (at + 3 * k) bytes))
 
     plain : (k : ℕ) → (format_of s ≡ 3 → ⊥) → row_judged n top s at k ≡ refuse n (out k)
     unfolding row_judged row_falls refuse

@@ -3,29 +3,24 @@
 --     blank, filled, laid     a loop that lays a pattern: its start, a turn, its end
 --     joins, joined-some      a loop that joins 0 or 1 for each byte
 --     numbered                a block's rows with a given number
---     dangling-range          hours references that dangle, as a range of bytes
---     block-judged            the quick test of a block is the judgement of its rows
 --     blocks-rest, rows_split     all rows, as whole blocks and the rows left over; those out of range
 -- Assumes nothing.
 use Prim.Native.Nat.{ℕ, ◌+◌, ◌*◌, ◌-◌, ◌≤◌, ◌<◌}
 use mathlib.Core.Path.{◌≡◌, refl, sym, ap, ap₂, ◌∙◌}
 use mathlib.Core.Logic.{⊎_elim}
-use mathlib.Core.Bool.{Bool, true, false, not, ◌&&◌, ◌||◌, and-true, and-false, or-false}
+use mathlib.Core.Bool.{Bool, true, false, not, ◌&&◌, ◌||◌, and-true, or-false}
 use mathlib.Core.List.{List}
 use native.Mathlib.Omega.{arith}
 use native.Mathlib.Nat.{le_antisymm}
-use borrow.Author.Tests.{le-leb, lt-leb, leb-true, eq-eqb, eqb-true, eqb-false}
+use borrow.Author.Tests.{le-leb, leb-true, eq-eqb, eqb-true}
 use lib.Bits.{bit_or}
 use lib.Dec.{leb, eqb}
 use lib.ListN.{length, get_or, set, length-set}
 use lib.Seq.{get_or-set_same, get_or-set_other}
-use Rattle.ground.specs.Believed.Choice.{pick}
 use Rattle.ground.specs.Believed.Search.{any_below, one}
 use Rattle.ground.proofs.BoolLaws.{lt-or-le, eq-ext, and_yes, and_both, not_yes}
 use Rattle.ground.proofs.SearchLaws.{any-turn, any_same, any-split, any-blocks}
 use Rattle.endian.specs.Believed.Numbers.{Bytes, u8_at}
-use Rattle.hours.specs.Believed.Hours.{ref_of, dangling}
-use Rattle.hours.specs.declared.HoursRef.TheVariants.{Always, Numbered}
 use Rattle.rota_rows.specs.Rows.{row_out, byte_out, Pattern}
 
 -- 0 or 1 for each byte, joined: 1 where one is
@@ -148,30 +143,19 @@ module _ (x : ℕ) (low high : List ℕ) (pl : Pattern x 255 255 16 low) (ph : P
       let n = eqb (u8_at s v) x in
       ap₂ ◌||◌ (ap₂ ◌||◌ (alone (u8_at s v)) (empty (u8_at s (v + 1))) ∙ or-false n) (empty (u8_at s (v + 2))) ∙ or-false n)
 
--- a byte's reference dangles, where there are h hours records, exactly when the byte is from h to 254
-pub dangling-range : (h x : ℕ) → x < 256 → within h 254 x ≡ dangling h (ref_of x)
-unfolding ref_of dangling
-dangling-range h x l = go (eqb x 255) refl
-  where
-    go : (b : Bool) → eqb x 255 ≡ b → within h 254 x ≡ dangling h (pick b Always (Numbered x))
-    go true e = unfold dangling in ap (λ (b : Bool). leb h x && b) (lt-leb x 254 (omega (arith, eqb-true x 255 e))) ∙ and-false (leb h x)
-    go false e = unfold dangling in ap (λ (b : Bool). leb h x && b) (le-leb x 254 (omega (arith, eqb-false x 255 e))) ∙ and-true (leb h x)
-
 -- rows that are out of range
 module _ (top roles hours : ℕ) (low high : List ℕ) (pl : Pattern top roles hours 16 low) (ph : Pattern 255 255 254 16 high) (s : List ℕ) (bytes : Bytes s) where
   -- a byte is at most 255
   low-only : (n x : ℕ) → x < 256 → within n 255 x ≡ leb n x
   low-only n x m = ap (λ (b : Bool). leb n x && b) (le-leb x 255 (omega arith)) ∙ and-true (leb n x)
 
-  -- some byte of a block lies in its range exactly when some row of it, judged by itself, is out of range
-  pub block-judged : (at : ℕ) → any_below 48 (byte_out low high s at) ≡ any_below 16 (λ i. row_out top roles hours s (at + 3 * i))
+  block : (at : ℕ) → any_below 48 (byte_out low high s at) ≡ any_below 16 (λ i. row_out top roles hours s (at + 3 * i))
   unfolding row_out
-  block-judged at =
+  block at =
       block-rows top roles hours 255 255 254 low high pl ph s (row_out top roles hours s) at
       (λ v.
-      ap₂ ◌||◌
-      (ap₂ ◌||◌ (low-only top (u8_at s v) (bytes v)) (low-only roles (u8_at s (v + 1)) (bytes (v + 1))))
-      (dangling-range hours (u8_at s (v + 2)) (bytes (v + 2))))
+      ap (λ (b : Bool). b || within hours 254 (u8_at s (v + 2)))
+      (ap₂ ◌||◌ (low-only top (u8_at s v) (bytes v)) (low-only roles (u8_at s (v + 1)) (bytes (v + 1)))))
 
   pub rows_split : (at n b : ℕ) → 16 * b ≤ n
       → any_below n (λ k. row_out top roles hours s (at + 3 * k))
@@ -179,4 +163,4 @@ module _ (top roles hours : ℕ) (low high : List ℕ) (pl : Pattern top roles h
   rows_split at n b l =
       blocks-rest (row_out top roles hours s) at n b l
       ∙ ap (λ (a : Bool). a || any_below (n - 16 * b) (λ k. row_out top roles hours s (at + 3 * (16 * b) + 3 * k)))
-      (any_same b _ _ (λ i m. sym (block-judged (at + 48 * i))))
+      (any_same b _ _ (λ i m. sym (block (at + 48 * i))))

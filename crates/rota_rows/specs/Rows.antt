@@ -2,11 +2,11 @@
 use Rattle.std.specs.Prelude.{ℕ, ◌+◌, ◌-◌, ◌*◌, ◌<◌, Bool, ◌&&◌, ◌||◌, List, ◌≡◌, leb, eqb, get_or}
 use Rattle.ground.specs.Believed.Choice.{pick}
 use Rattle.endian.specs.Believed.Numbers.{u8_at}
-use Rattle.hours.specs.Believed.Hours.{ref_of, dangling}
 
--- the row at a position has a number not below `top`, a role not below `roles`, or an hours reference that is neither always nor below `hours`
+-- the row at a position has a number not below `top`, a role not below `roles`, or an hours reference that is neither below `hours` nor 255
 unfoldable pub row_out : ℕ → ℕ → ℕ → List ℕ → ℕ → Bool
-row_out top roles hours s at = leb top (u8_at s at) || leb roles (u8_at s (at + 1)) || dangling hours (ref_of (u8_at s (at + 2)))
+row_out top roles hours s at =
+    leb top (u8_at s at) || leb roles (u8_at s (at + 1)) || (leb hours (u8_at s (at + 2)) && leb (u8_at s (at + 2)) 254)
 
 -- byte j of those from `at` on lies in its range
 unfoldable pub byte_out : List ℕ → List ℕ → List ℕ → ℕ → ℕ → Bool

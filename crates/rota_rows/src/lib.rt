@@ -1,6 +1,6 @@
 // Rows of three bytes, a number, a role and an hours reference: whether one of many has a byte out of range, whether one of sixteen has a given number,
 // and whether one of many is not above the one before. Sixteen rows are 48 bytes and are looked at together, each byte against a range of its own or
-// the next row's byte and without stopping, so that the compiler can make vector code of it. One row is judged by what its bytes stand for.
+// the next row's byte and without stopping, so that the compiler can make vector code of it.
 #![tactic(auto)]
 
 ghost use Rattle.std.specs.Prelude.{◌≡◌, ◌+◌, ◌-◌, ◌*◌, ◌≤◌, ◌<◌, ◌&&◌, leb, eqb, length};
@@ -8,8 +8,6 @@ ghost use Rattle.ground.specs.Believed.Choice.{pick};
 ghost use Rattle.ground.specs.Believed.Search.{any_below, one};
 ghost use Rattle.endian.specs.Believed.Numbers.{u8_at};
 ghost use Rattle.rota_rows.specs.Rows.{row_out, byte_out, rise_of, place_at, next_falls, Pattern};
-
-use hours::decode;
 
 // a, b and c, sixteen times.
 fn pattern(a: u8, b: u8, c: u8) -> [u8; 48]
@@ -67,7 +65,7 @@ fn blocks_out(s: &[u8], at: usize, n: usize, low: &[u8; 48], high: &[u8; 48]) ->
     false
 }
 
-// Whether the row at `at` has a number not below `top`, a role not below `roles`, or an hours reference that is neither always nor below `hours`.
+// Whether the row at `at` has a number not below `top`, a role not below `roles`, or an hours reference that is neither below `hours` nor 255.
 pub fn row_out(s: &[u8], at: usize, top: u8, roles: u8, hours: u8) -> bool
     requires { at + 3 ≤ length s.now }
     ensures { result ≡ row_out top roles hours s.now at }
@@ -78,7 +76,7 @@ pub fn row_out(s: &[u8], at: usize, top: u8, roles: u8, hours: u8) -> bool
     if roles <= s[at + 1] {
         return true;
     }
-    hours::dangles(decode(s[at + 2]), hours as usize)
+    between(hours, 254, s[at + 2]) != 0
 }
 
 // Whether one of the n rows from `at` on is, looked at one by one.
@@ -96,8 +94,8 @@ fn rest_out(s: &[u8], at: usize, n: usize, top: u8, roles: u8, hours: u8) -> boo
     false
 }
 
-// Whether `row_out` says so of one of the n rows from `at` on. Sixteen together have a quick test, each byte against a range: a reference is neither
-// always nor below `hours` where its byte is from `hours` to 254.
+// Whether one of the n rows from `at` on has a number not below `top`, a role not below `roles`, or an hours reference that is neither below `hours` nor
+// 255.
 pub fn rows_out(s: &[u8], at: usize, n: usize, top: u8, roles: u8, hours: u8) -> bool
     requires { at + 3 * n ≤ length s.now }
     ensures { result ≡ any_below n (λ k. row_out top roles hours s.now (at + 3 * k)) }

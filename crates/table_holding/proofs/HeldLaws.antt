@@ -6,7 +6,7 @@
 --     of-everyone                             those of everyone
 -- Assumes nothing.
 use Prim.Native.Nat.{ℕ, ◌+◌, ◌-◌, ◌*◌, ◌%◌, ◌^◌, ◌≤◌, ◌<◌, min}
-use mathlib.Core.Path.{◌≡◌, refl, sym, ◌∙◌, ap, subst}
+use mathlib.Core.Path.{◌≡◌, refl, sym, ◌∙◌, ap}
 use mathlib.Core.Logic.{⊎_elim}
 use mathlib.Core.Bool.{Bool, true, false, ◌&&◌, ◌||◌, not}
 use mathlib.Core.List.{List}
@@ -16,7 +16,7 @@ use lib.Pow.{pow_pos}
 use borrow.Author.Tests.{eq-eqb, eqb-true}
 use lib.Dec.{eqb}
 use Rattle.ground.specs.Believed.Search.{any_below}
-use Rattle.ground.proofs.BoolLaws.{and_yes, and_both, and-three, and-all, or_yes, or_left, clash, eq-ext, lt-or-le}
+use Rattle.ground.proofs.BoolLaws.{and_yes, and_both, and-three, and-all, or_yes, or_left, clash, eq-ext}
 use Rattle.ground.proofs.SearchLaws.{any_out, any-stop}
 use Rattle.endian.specs.Believed.Numbers.{u32_at, u64_at}
 use Rattle.bitset.specs.Believed.Sets.{has, union, intersection, difference}
@@ -27,7 +27,7 @@ use Rattle.minutes.proofs.LastingLaws.{lasting-at, lasting-shorter, lasting-on, 
 use Rattle.policy.specs.Held.{HeldAmong}
 use Rattle.policy.specs.Believed.Policy.{holds_any, holders_at}
 use Rattle.table.specs.Believed.Table.{policy_of}
-use Rattle.table.specs.Believed.TableBytes.{cycle_of, derived_of, users_of, roles_of, rows_of, entry_of, row_at_byte, row_of, table_of}
+use Rattle.table.specs.Believed.TableBytes.{cycle_of, users_of, roles_of, rows_of, entry_of, row_at_byte, row_of, table_of}
 use Rattle.table.specs.Believed.TableRefusals.{source_of, table_judged}
 use Rattle.table.specs.Inside.{Opened, window_given}
 use Rattle.table.specs.declared.Counts.{Counts}
@@ -36,7 +36,7 @@ use Rattle.table.proofs.HeaderLaws.{counts-are}
 use Rattle.table.proofs.FineLaws.{TableFine, table-fine}
 use Rattle.table_answers.proofs.AnswerLaws.{covering, owned}
 use Rattle.table_answers.proofs.HoldersLaws.{row_has, row-has, holds-is, holders-are}
-use Rattle.table_search.specs.Rows.{covers_for, row_for}
+use Rattle.table_search.specs.Rows.{row_for}
 use Rattle.table_search.proofs.StageLaws.{row-found, row-there}
 use Rattle.table_holding.specs.Held.{Holds, Gives, HeldBy, Reaching, GoesOn}
 

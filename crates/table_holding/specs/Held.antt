@@ -1,12 +1,12 @@
 -- Who holds a permission by the rows of a table, and how far: what the steps of the pass over the roles promise each other, which no reader has to
 -- believe.
-use Rattle.std.specs.Prelude.{ℕ, ◌+◌, ◌-◌, ◌^◌, ◌≤◌, ◌<◌, ◌≡◌, Bool, true, List}
+use Rattle.std.specs.Prelude.{ℕ, ◌+◌, ◌-◌, ◌^◌, ◌≤◌, ◌<◌, ◌≡◌, true, List}
 use Rattle.bitset.specs.Believed.Sets.{has}
 use Rattle.minutes.specs.Believed.Minutes.{E, covers}
 use Rattle.minutes.specs.Lasting.{Lasting}
 use Rattle.policy.specs.Believed.Policy.{holds_any}
-use Rattle.table.specs.Believed.Table.{Entry, policy_of}
-use Rattle.table.specs.Believed.TableBytes.{cycle_of, rows_of, entry_of, row_of, row_at_byte, entry_at_byte, table_of}
+use Rattle.table.specs.Believed.Table.{policy_of}
+use Rattle.table.specs.Believed.TableBytes.{cycle_of, rows_of, entry_of, row_of, row_at_byte, table_of}
 use Rattle.table.specs.Believed.TableRefusals.{source_of}
 
 -- user u holds a permission to before `until`, and, by the cycle, to before `era`

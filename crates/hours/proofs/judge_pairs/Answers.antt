@@ -5,7 +5,6 @@ use Rattle.hours.proofs.PairLaws.{pair-bad, pair-good, earliest-more, earliest-n
 use Rattle.ground.proofs.JudgementLaws.{turns-none, turns_more, turns-refused}
 use native.Mathlib.Nat.{le_antisymm}
 use mathlib.Core.Path.{sym}
-use Prim.Native.Nat.{◌-◌}
 use Rattle.hours.proofs.judge_pairs.Goals as goal
 
 pub loop-j-init : goal.loop-j-init

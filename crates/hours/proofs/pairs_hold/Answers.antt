@@ -1,6 +1,5 @@
 -- No pair so far has the phase.
 use borrow.Author.Rules.{rules}
-use Prim.Native.Nat.{◌-◌}
 use mathlib.Core.Path.{◌∙◌}
 use Rattle.ground.proofs.SearchLaws.{any_none, any-more}
 use Rattle.hours.proofs.HoldsLaws.{span-is, pairs-yes, pairs-no}

@@ -3,7 +3,6 @@ use mathlib.Core.Path.{◌∙◌}
 use Rattle.hours.specs.Inside.{holding}
 use Rattle.hours_reader.proofs.WalkLaws.{passed-fine, gather_none, gather-in, gather-out, gather-all}
 use native.Mathlib.Omega.{arith}
-use Prim.Native.Nat.{◌-◌}
 use Rattle.hours_reader.proofs.holding_at.Goals as goal
 use Rattle.hours_reader.proofs.holding_at.Goals.{then-record_holds, else-record_holds}
 

@@ -3,7 +3,6 @@ use Rattle.hours_reader.proofs.WalkLaws.{walked_none, walked_stop, walked_more, 
 use Rattle.hours.specs.Answers.{hours_given}
 use native.Mathlib.Omega.{arith}
 use mathlib.Core.Path.{sym, ap, ◌∙◌}
-use Prim.Native.Nat.{◌-◌}
 use Rattle.hours_reader.proofs.judge_all.Goals as goal
 
 pub loop-k-init : goal.loop-k-init

@@ -1,5 +1,4 @@
 -- The first pair that ends after the phase is from `low` to `high`.
-use Prim.Native.Nat.{◌-◌}
 use native.Mathlib.Omega.{arith}
 use Rattle.hours_times.proofs.SpanLaws.{halved_none, halved-low, halved-high, halved-all}
 use Rattle.hours_times.proofs.first_ending.Goals as goal

@@ -1,5 +1,4 @@
 -- The records so far that hold at the minute are gathered.
-use Prim.Native.Nat.{◌-◌}
 use mathlib.Core.Path.{◌∙◌}
 use native.Mathlib.Omega.{arith}
 use Rattle.hours.specs.Inside.{holding}

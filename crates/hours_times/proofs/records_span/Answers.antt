@@ -1,5 +1,4 @@
 -- Of the records so far: the shortest times of those that count.
-use Prim.Native.Nat.{◌-◌}
 use mathlib.Core.Path.{sym, ◌∙◌}
 use native.Mathlib.Omega.{arith}
 use Rattle.minutes.specs.Believed.Minutes.{E}

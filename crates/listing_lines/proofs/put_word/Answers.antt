@@ -4,7 +4,6 @@ use lib.ListN.{length-set}
 use native.Mathlib.Nat.{add-zero}
 use native.Mathlib.Omega.{arith}
 use mathlib.Core.Path.{◌∙◌}
-use Prim.Native.Nat.{◌-◌}
 use Rattle.listing_lines.proofs.put_word.Goals as goal
 
 pub loop-i-init : goal.loop-i-init

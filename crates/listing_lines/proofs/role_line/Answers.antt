@@ -1,7 +1,6 @@
 use Rattle.listing_lines.proofs.PutLaws.{put-more}
 use Rattle.listing_lines.specs.Believed.Lines.{ascii, decimal, hex16, role_line}
 use native.Mathlib.Omega.{arith}
-use borrow.Author.Rules.{rules}
 use Rattle.listing_lines.proofs.role_line.Goals as goal
 
 pub returns : goal.returns

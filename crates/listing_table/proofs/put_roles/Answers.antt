@@ -5,7 +5,7 @@ use Rattle.listing_table.specs.Believed.TableText.{roles_text}
 use Rattle.listing_table.proofs.TextLaws.{roles-none, roles_more}
 use native.Mathlib.Omega.{arith}
 use mathlib.Core.Path.{◌≡◌, ap}
-use Prim.Native.Nat.{ℕ, ◌-◌}
+use Prim.Native.Nat.{ℕ}
 use Rattle.listing_table.proofs.put_roles.Goals as goal
 
 pub loop-d-init : goal.loop-d-init

@@ -1,5 +1,5 @@
 -- The walk stands where the turns so far lead; each turn takes a member away, so that there are no more turns than members.
-use Prim.Native.Nat.{◌+◌, ◌-◌}
+use Prim.Native.Nat.{◌+◌}
 use Rattle.bitset.specs.Believed.Sets.{count}
 use Rattle.rewrite_trees.proofs.WalkLaws.{Seeking}
 use Rattle.rewrite_trees.proofs.find.Given as goal

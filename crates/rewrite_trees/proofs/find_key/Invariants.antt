@@ -1,5 +1,5 @@
 -- The walk of `find`, with a key as a pair of it and the empty set: no turn goes by the second set.
-use Prim.Native.Nat.{◌+◌, ◌-◌}
+use Prim.Native.Nat.{◌+◌}
 use Rattle.bitset.specs.Believed.Sets.{count}
 use Rattle.rewrite_trees.specs.Tree.{key_pairs}
 use Rattle.rewrite_trees.proofs.WalkLaws.{Seeking}

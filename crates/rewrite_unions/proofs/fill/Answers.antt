@@ -1,7 +1,6 @@
 -- The first q groups are in the table.
 use native.Mathlib.Omega.{arith}
 use mathlib.Core.Path.{refl}
-use Prim.Native.Nat.{◌-◌}
 use Rattle.rewrite_unions.proofs.TableLaws.{filled_none, filled_more, tabled-some, tabled-most}
 use Rattle.rewrite_unions.proofs.fill.Goals as goal
 

@@ -1,7 +1,6 @@
 -- The slots of the first q groups are in the union.
 use native.Mathlib.Omega.{arith}
 use mathlib.Core.Path.{refl, sym, ◌∙◌}
-use Prim.Native.Nat.{◌-◌}
 use Rattle.rewrite_unions.proofs.UnionLaws.{union-none, union-with, union-without}
 use Rattle.rewrite_unions.proofs.TableLaws.{tabled-turn, tabled-all}
 use Rattle.rewrite_unions.proofs.union_at.Goals as goal

@@ -1,7 +1,6 @@
 -- The slots below `next` that are in use are in the union, and the others give nothing.
 use native.Mathlib.Omega.{arith}
 use mathlib.Core.Path.{◌≡◌, ap, ◌∙◌}
-use Prim.Native.Nat.{◌-◌}
 use Rattle.bitset.specs.Believed.Sets.{intersection}
 use Rattle.rewrite_unions.specs.Union.{union_of}
 use Rattle.rewrite_unions.proofs.UnionLaws.{union-none, union-done, union-past, union-turn}

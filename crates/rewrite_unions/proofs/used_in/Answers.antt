@@ -1,7 +1,6 @@
 -- The slots below k whose sets are not empty are gathered.
 use native.Mathlib.Omega.{arith}
 use mathlib.Core.Path.{refl, ◌∙◌}
-use Prim.Native.Nat.{◌-◌}
 use Rattle.bitset.proofs.SetLaws.{set_of-none, turn_in, turn-out}
 use Rattle.rewrite_unions.specs.Union.{in_use}
 use Rattle.rewrite_unions.proofs.UnionLaws.{in-use, not-in-use, used_all}

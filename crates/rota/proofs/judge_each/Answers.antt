@@ -1,5 +1,4 @@
 -- Row by row: its number out of range, then its place.
-use Prim.Native.Nat.{◌-◌}
 use mathlib.Core.Path.{sym, ◌∙◌}
 use native.Mathlib.Omega.{arith}
 use native.Mathlib.Nat.{le_antisymm}
@@ -34,7 +33,7 @@ pub returns-then-row_out : goal.returns-then-row_out
 returns-then-row_out c =
     let p = c.requires in
     sym (turns-refused _ _ _ _ p.0.number c.loop-k-test.true c.loop-k.invariant.3
-    (row-out _ _ p.0.hours _ _ _ _ p.0.roles-are p.1 _ p.0.number
+    (row-out _ _ p.0.hours _ _ _ _ (λ i. omega (arith, c.type_inv.s i)) p.0.roles-are p.1 _ p.0.number
     (sym c.row_out.ensures ∙ c.if-row_out.true)))
 
 pub key_at-key-requires : goal.key_at-key-requires
@@ -45,7 +44,7 @@ returns-then-key-above c =
     let p = c.requires in
     let i = c.loop-k.invariant in
     sym (turns-refused _ _ _ 52 (omega arith) c.loop-k-test.true i.3
-    (row-falls _ _ p.0.hours _ _ _ _ p.0.roles-are p.1 _ _ _
+    (row-falls _ _ p.0.hours _ _ _ _ (λ i. omega (arith, c.type_inv.s i)) p.0.roles-are p.1 _ _ _
     (sym c.row_out.ensures ∙ c.if-row_out.false) c.key_at-key.ensures.0 i.2 c.if-key-above.true))
 
 pub overflow_add-above : goal.overflow_add-above
@@ -65,7 +64,7 @@ loop-k-preserved c =
       omega (arith, c.key_at-key.ensures.1),
       least-next _ _ _ c.key_at-key.ensures.0,
       turns_more _ _ i.3
-          (row-passes _ _ p.0.hours _ _ _ _ p.0.roles-are p.1 _ _ _
+          (row-passes _ _ p.0.hours _ _ _ _ (λ i. omega (arith, c.type_inv.s i)) p.0.roles-are p.1 _ _ _
           (sym c.row_out.ensures ∙ c.if-row_out.false) c.key_at-key.ensures.0 i.2 c.if-key-above.false),
     )
 

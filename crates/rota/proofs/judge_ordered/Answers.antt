@@ -30,12 +30,12 @@ pub returns-then-any_falls : goal.returns-then-any_falls
 returns-then-any_falls c =
     let p = c.requires in
     sym (refuse-yes 52 _ c.if-any_falls.true)
-    ∙ rows-ordered _ _ p.0.hours _ _ _ _ p.0.roles-are p.1 _ _
+    ∙ rows-ordered _ _ p.0.hours _ _ _ _ (λ i. omega (arith, c.type_inv.s i)) p.0.roles-are p.1 _ _
     (sym c.rows_out.ensures ∙ c.if-rows_out.false) c.any_falls.ensures
 
 pub returns-else-any_falls : goal.returns-else-any_falls
 returns-else-any_falls c =
     let p = c.requires in
     sym (refuse-none 52 _ c.if-any_falls.false)
-    ∙ rows-ordered _ _ p.0.hours _ _ _ _ p.0.roles-are p.1 _ _
+    ∙ rows-ordered _ _ p.0.hours _ _ _ _ (λ i. omega (arith, c.type_inv.s i)) p.0.roles-are p.1 _ _
     (sym c.rows_out.ensures ∙ c.if-rows_out.false) c.any_falls.ensures

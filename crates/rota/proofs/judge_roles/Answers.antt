@@ -5,7 +5,6 @@ use Rattle.ground.proofs.JudgementLaws.{turns-none, turns_more, turns-refused, r
 use native.Mathlib.Omega.{arith}
 use native.Mathlib.Nat.{le_antisymm}
 use mathlib.Core.Path.{sym, ◌∙◌}
-use Prim.Native.Nat.{◌-◌}
 use Rattle.rota.proofs.judge_roles.Goals as goal
 
 pub loop-k-init : goal.loop-k-init

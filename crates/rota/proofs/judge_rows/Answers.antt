@@ -20,10 +20,10 @@ pub returns-then-rows_out : goal.returns-then-rows_out
 returns-then-rows_out c =
     let p = c.requires in
     sym (refuse-yes _ _ c.if-rows_out.true)
-    ∙ rows-judged _ _ p.0.hours _ _ _ _ p.0.roles-are _ _ p.1 c.rows_out.ensures
+    ∙ rows-judged _ _ p.0.hours _ _ _ _ (λ i. omega (arith, c.type_inv.s i)) p.0.roles-are _ _ p.1 c.rows_out.ensures
 
 pub returns-else-rows_out : goal.returns-else-rows_out
 returns-else-rows_out c =
     let p = c.requires in
     sym (refuse-none c.args.refusal _ c.if-rows_out.false)
-    ∙ rows-judged _ _ p.0.hours _ _ _ _ p.0.roles-are _ _ p.1 c.rows_out.ensures
+    ∙ rows-judged _ _ p.0.hours _ _ _ _ (λ i. omega (arith, c.type_inv.s i)) p.0.roles-are _ _ p.1 c.rows_out.ensures

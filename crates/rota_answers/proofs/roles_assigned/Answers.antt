@@ -7,7 +7,6 @@ use Rattle.bitset.proofs.GatherLaws.{gather_none, gather-in, gather-out}
 use native.Mathlib.Nat.{le_antisymm}
 use native.Mathlib.Omega.{arith}
 use mathlib.Core.Path.{◌∙◌}
-use Prim.Native.Nat.{◌-◌}
 use Rattle.rota_answers.proofs.roles_assigned.Goals as goal
 use Rattle.rota_answers.proofs.roles_assigned.Goals.{then-row_in, else-row_in}
 

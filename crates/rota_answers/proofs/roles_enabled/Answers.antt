@@ -8,7 +8,6 @@ use Rattle.bitset.proofs.SetLaws.{set_of-none, turn_in, turn-out}
 use native.Mathlib.Nat.{le_antisymm}
 use native.Mathlib.Omega.{arith}
 use mathlib.Core.Path.{◌∙◌}
-use Prim.Native.Nat.{◌-◌}
 use Rattle.rota_answers.proofs.roles_enabled.Goals as goal
 use Rattle.rota_answers.proofs.roles_enabled.Goals.{then-ref_holds, else-ref_holds}
 

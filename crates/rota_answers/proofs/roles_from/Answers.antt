@@ -6,7 +6,6 @@ use Rattle.bitset.proofs.GatherLaws.{gather-in, gather-out}
 use native.Mathlib.Nat.{le_antisymm}
 use native.Mathlib.Omega.{arith}
 use mathlib.Core.Path.{refl, ◌∙◌}
-use Prim.Native.Nat.{◌-◌}
 use Rattle.rota_answers.proofs.roles_from.Goals as goal
 use Rattle.rota_answers.proofs.roles_from.Goals.{then-row_of, else-row_of}
 

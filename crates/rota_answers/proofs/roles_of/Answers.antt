@@ -2,7 +2,6 @@
 use borrow.Author.Rules.{rules}
 use native.Mathlib.Omega.{arith}
 use mathlib.Core.Path.{sym, ◌∙◌}
-use Prim.Native.Nat.{◌-◌}
 use Rattle.bitset.proofs.GatherLaws.{gather_none}
 use Rattle.rota.specs.Believed.RotaBytes.{roles_of}
 use Rattle.rota_answers.specs.Gathered.{roles_of_number}

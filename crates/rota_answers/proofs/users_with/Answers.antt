@@ -7,7 +7,6 @@ use Rattle.bitset.proofs.GatherLaws.{gather_none, gather-in, gather-out}
 use native.Mathlib.Nat.{le_antisymm}
 use native.Mathlib.Omega.{arith}
 use mathlib.Core.Path.{◌∙◌}
-use Prim.Native.Nat.{◌-◌}
 use Rattle.rota_answers.proofs.users_with.Goals as goal
 use Rattle.rota_answers.proofs.users_with.Goals.{then-row_with, else-row_with}
 

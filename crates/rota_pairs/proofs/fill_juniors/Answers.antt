@@ -1,5 +1,5 @@
 -- The sets so far are those of the pairs so far.
-use Prim.Native.Nat.{◌+◌, ◌*◌, ◌-◌}
+use Prim.Native.Nat.{◌+◌, ◌*◌}
 use native.Mathlib.Nat.{le_antisymm}
 use native.Mathlib.Omega.{arith}
 use Rattle.rota_pairs.proofs.PairLaws.{pair_of}

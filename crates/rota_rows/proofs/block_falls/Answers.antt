@@ -2,7 +2,6 @@
 use native.Mathlib.Omega.{arith}
 use native.Mathlib.Nat.{le_antisymm}
 use mathlib.Core.Path.{sym, ap, ◌∙◌}
-use Prim.Native.Nat.{◌-◌}
 use Rattle.ground.specs.Believed.Search.{one}
 use Rattle.ground.proofs.SearchLaws.{any_none}
 use Rattle.rota_rows.proofs.ScanLaws.{joins, joined-some}

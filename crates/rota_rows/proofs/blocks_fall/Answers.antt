@@ -1,6 +1,5 @@
 use native.Mathlib.Nat.{le_antisymm}
 use mathlib.Core.Path.{sym, ◌∙◌}
-use Prim.Native.Nat.{◌-◌}
 use Rattle.ground.proofs.SearchLaws.{any_none, any-more, any-stop}
 use borrow.Author.Rules.{rules}
 use Rattle.rota_rows.proofs.blocks_fall.Goals as goal

@@ -1,5 +1,4 @@
 use native.Mathlib.Omega.{arith}
-use Prim.Native.Nat.{◌-◌}
 use mathlib.Core.Path.{refl}
 use lib.ListN.{get_or-replicate}
 use Rattle.rota_rows.proofs.ScanLaws.{blank, filled, laid}

@@ -2,7 +2,7 @@
 use native.Mathlib.Omega.{arith}
 use native.Mathlib.Nat.{le_antisymm}
 use mathlib.Core.Path.{◌≡◌, sym, ap, ◌∙◌}
-use Prim.Native.Nat.{◌-◌, ◌+◌, ◌*◌}
+use Prim.Native.Nat.{◌+◌, ◌*◌}
 use Rattle.ground.proofs.SearchLaws.{any_none, any-more, any-stop}
 use Rattle.rota_rows.specs.Rows.{place_at}
 use Rattle.rota_rows.proofs.FallLaws.{falls-yes, falls-no}

@@ -1,7 +1,6 @@
 use borrow.Author.Rules.{rules}
 use native.Mathlib.Nat.{le_antisymm}
 use mathlib.Core.Path.{sym, ◌∙◌}
-use Prim.Native.Nat.{◌-◌}
 use Rattle.ground.proofs.SearchLaws.{any_none, any-more, any-stop}
 use Rattle.rota_rows.proofs.rest_out.Goals as goal
 

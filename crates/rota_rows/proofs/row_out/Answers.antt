@@ -1,7 +1,7 @@
 use borrow.Author.Tests.{le-leb, lt-leb}
-use mathlib.Core.Path.{refl, ap, ◌∙◌}
-use Rattle.hours.specs.Believed.Hours.{dangling}
+use mathlib.Core.Path.{refl}
 use Rattle.rota_rows.specs.Rows.{row_out}
+use Rattle.rota_rows.proofs.ScanLaws.{joined-some}
 use Rattle.rota_rows.proofs.row_out.Goals as goal
 
 pub returns-then-top-s : goal.returns-then-top-s
@@ -14,5 +14,4 @@ returns-then-roles-s c = rw (lt-leb _ _ c.if-top-s.false, le-leb _ _ c.if-roles-
 
 pub returns : goal.returns
 unfolding row_out
-returns c =
-    rw (lt-leb _ _ c.if-top-s.false, lt-leb _ _ c.if-roles-s.false) (c.dangles.ensures ∙ ap (dangling _) c.decode.ensures)
+returns c = rw (lt-leb _ _ c.if-top-s.false, lt-leb _ _ c.if-roles-s.false) (joined-some _ _ c.between.ensures)

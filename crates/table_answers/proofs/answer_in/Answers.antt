@@ -1,5 +1,4 @@
 -- No row so far grants; rows go by source role, so the first that does has the lowest.
-use Prim.Native.Nat.{◌-◌}
 use mathlib.Core.Path.{sym, ◌∙◌}
 use native.Mathlib.Omega.{arith}
 use native.Mathlib.Nat.{le_antisymm}

@@ -1,5 +1,4 @@
 -- The rows so far that cover the minute are counted, and the permissions of their entries are with their users.
-use Prim.Native.Nat.{◌-◌}
 use mathlib.Core.Path.{◌∙◌}
 use native.Mathlib.Omega.{arith}
 use native.Mathlib.Nat.{le_antisymm}

@@ -1,5 +1,4 @@
 -- The rows so far reach to phase `far`.
-use Prim.Native.Nat.{◌-◌}
 use native.Mathlib.Omega.{arith}
 use Rattle.minutes.specs.Believed.Minutes.{E}
 use Rattle.table_answers.proofs.AnswerLaws.{row_inside}

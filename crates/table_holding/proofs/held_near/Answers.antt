@@ -1,5 +1,4 @@
 -- What the roles below r give.
-use Prim.Native.Nat.{◌-◌}
 use native.Mathlib.Omega.{arith}
 use Rattle.minutes.specs.Believed.Minutes.{E}
 use Rattle.table_answers.proofs.AnswerLaws.{phase-is}

@@ -1,5 +1,4 @@
 -- `best` is the first minute that the rows so far give; they are passed in blocks, and a block may be passed by its first and last row.
-use Prim.Native.Nat.{◌-◌}
 use native.Mathlib.Nat.{le_antisymm}
 use native.Mathlib.Omega.{arith}
 use borrow.Author.Rules.{rules}

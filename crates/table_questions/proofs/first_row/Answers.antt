@@ -1,5 +1,4 @@
 -- The rows before what is left are of lower roles, and those after it are not.
-use Prim.Native.Nat.{◌-◌}
 use native.Mathlib.Omega.{arith}
 use Rattle.table.proofs.HeaderLaws.{counts-are}
 use Rattle.table_answers.proofs.AnswerLaws.{row_inside}

@@ -1,5 +1,4 @@
 -- For each role so far it is known where its rows begin; the next search begins at the last one's result.
-use Prim.Native.Nat.{◌-◌}
 use mathlib.Core.Path.{refl, ◌∙◌}
 use native.Mathlib.Nat.{le_antisymm}
 use native.Mathlib.Omega.{arith}

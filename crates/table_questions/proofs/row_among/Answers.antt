@@ -1,5 +1,4 @@
 -- Of the rows before what is left only the last may cover the minute, and none of those after does.
-use Prim.Native.Nat.{◌-◌}
 use native.Mathlib.Omega.{arith}
 use Rattle.table_questions.proofs.StartLaws.{begins-most}
 use Rattle.table_questions.proofs.AmongLaws.{row_room, left-all, left_up, left_down, among_none, among-last, among-gone}

@@ -1,5 +1,4 @@
 -- No role so far answers. Nothing is known of where a search begins.
-use Prim.Native.Nat.{◌-◌}
 use native.Mathlib.Omega.{arith}
 use native.Mathlib.Nat.{le_antisymm}
 use borrow.Author.Rules.{rules}

@@ -1,5 +1,4 @@
 -- The entries so far are not refused, and the source before is the last one's.
-use Prim.Native.Nat.{◌-◌}
 use mathlib.Core.Path.{sym}
 use native.Mathlib.Nat.{le_antisymm}
 use native.Mathlib.Omega.{arith}

@@ -1,5 +1,4 @@
 -- The rows so far are not refused, and the row before is at hand with its source.
-use Prim.Native.Nat.{◌-◌}
 use mathlib.Core.Path.{refl, sym, ◌∙◌}
 use native.Mathlib.Nat.{le_antisymm}
 use native.Mathlib.Omega.{arith}

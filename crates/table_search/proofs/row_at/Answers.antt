@@ -1,5 +1,4 @@
 -- No row outside what is left to look at covers the minute.
-use Prim.Native.Nat.{◌-◌}
 use native.Mathlib.Omega.{arith}
 use Rattle.table.proofs.HeaderLaws.{counts-are}
 use Rattle.table_search.proofs.StageLaws.{narrow-none, narrow-up, narrow-down, row-at-stage, row-none}

@@ -1,8 +1,6 @@
 -- Assumes nothing.
 use mathlib.Core.Path.{refl}
-use native.Mathlib.Omega.{arith}
 use Rattle.calendar.specs.Believed.Calendar.{leap, month_length, month_start}
-use Rattle.calendar.proofs.StartLaws.{past}
 use Rattle.calendar.proofs.tables.common_start.Goals as goal
 
 -- `calendar::tables::common_start` meets its contract: antt computes each number by the rule.
