@@ -34,7 +34,9 @@ pub enum Lending {
     Refused(u8),
 }
 
-// Judges the bytes: the first refusal of a rota or of a table, or what is lent.
+// Judges the bytes: the first refusal of a rota or of a table, or what is lent. Compiled by itself, so that what it takes of the stack is given back
+// before its caller goes on.
+#[inline(never)]
 pub fn lend(kind: Kind, s: &[u8]) -> Lending
     ensures { lending_given result ≡ lend_outcome kind s.now }
 {
