@@ -1,4 +1,4 @@
-# make            proves and builds the library and the programs, below target/ (seven minutes from nothing; needs the Rattle kit's rt)
+# make            proves and builds the library and the programs, below target/ and the crates' out/ (needs the Rattle kit's rt)
 # make check      the tests: .ci/run
 # make install    puts them below PREFIX, or below DESTDIR and PREFIX for a package; it builds what is missing
 # make uninstall  takes away what `make install` with the same PREFIX and DESTDIR put there
