@@ -55,6 +55,8 @@ pub struct Proof<'a> {
     pub declared: Vec<Declared>,
     /// Names that a term, a pattern or a record's later fields read as something of their own.
     pub bound: Vec<(String, usize)>,
+    /// Those that a `let` defines.
+    pub lets: Vec<(String, usize)>,
 }
 
 /// A name as it is written without its quotes.
@@ -135,6 +137,7 @@ impl<'a> Proof<'a> {
             modules: Vec::new(),
             declared: Vec::new(),
             bound: Vec::new(),
+            lets: Vec::new(),
         };
         let whole = 0..proof.tokens.len();
         proof.block(whole.clone(), &Within::default())?;
@@ -312,7 +315,7 @@ impl<'a> Proof<'a> {
 
     /// The names that terms and types bind: after `λ`, `∀` and `let`, and in `(x y : A)`.
     fn bound_in(&mut self, range: Range<usize>) {
-        let mut found = Vec::new();
+        let (mut found, mut lets) = (Vec::new(), Vec::new());
         for at in range.clone() {
             match self.word(at) {
                 "λ" | "∀" => {
@@ -321,7 +324,7 @@ impl<'a> Proof<'a> {
                 }
                 "let" => {
                     let end = self.find(at + 1..range.end, &["=", ":"]).unwrap_or(at);
-                    found.extend(self.plain(at + 1..end));
+                    lets.extend(self.plain(at + 1..end));
                 }
                 "(" | "{" => {
                     let names = (at + 1..range.end)
@@ -336,9 +339,11 @@ impl<'a> Proof<'a> {
                 _ => {}
             }
         }
-        for at in found {
-            self.bound.push((bare(self.word(at)).to_string(), self.tokens[at].line));
-        }
+        let named = |at: usize| (bare(self.word(at)).to_string(), self.tokens[at].line);
+        let found: Vec<(String, usize)> = found.into_iter().map(named).collect();
+        let lets: Vec<(String, usize)> = lets.into_iter().map(named).collect();
+        self.bound.extend(found);
+        self.lets.extend(lets);
     }
 
     /// The names among binders, those in brackets only where no type follows.

@@ -3,7 +3,7 @@
 
 use std::collections::{BTreeMap, BTreeSet};
 
-use crate::proof::{Import, Kind};
+use crate::proof::{Import, Kind, Proof};
 use crate::repository::{Module, Repository, SYMBOLS, Sources, place};
 
 /// Names that are there with no `use` line: those of the language's own prelude,
@@ -80,11 +80,14 @@ impl<'a> Listed<'a> {
 
 /// What is brought in by a file of src/ or specs/, or one with a claimed theorem.
 fn scope<'a>(sources: &'a Sources, claimed: &BTreeSet<String>) -> Vec<(&'a str, &'a [Import])> {
-    let specs = sources.proofs.iter().filter(|(file, _)| {
-        claimed.contains(**file) || place(file).is_some_and(|(_, folder)| folder == "specs")
-    });
+    let specs = sources.proofs.iter().filter(|(file, _)| in_scope(file, claimed));
     let sources = sources.sources.iter().map(|(file, source)| (*file, &source.imports[..]));
     sources.chain(specs.map(|(file, proof)| (*file, &proof.imports[..]))).collect()
+}
+
+/// Whether a file is one of those, where it is not of src/.
+fn in_scope(file: &str, claimed: &BTreeSet<String>) -> bool {
+    claimed.contains(file) || place(file).is_some_and(|(_, folder)| folder == "specs")
 }
 
 /// What is amiss; `claimed` are the files of proofs/ that have a claimed theorem.
@@ -144,6 +147,11 @@ pub fn symbols(
                     found.push(format!("{file}:{line}: {name} is bound"));
                 }
             }
+            for (name, line) in &proof.lets {
+                if kit.has(name) || kit.hidden(name, imports) {
+                    found.push(format!("{file}:{line}: {name} is bound"));
+                }
+            }
         }
         if let Some(source) = sources.sources.get(file) {
             let items = source.items.iter().map(|item| &item.name);
@@ -161,6 +169,9 @@ pub fn symbols(
                 }
             }
         }
+    }
+    for (file, proof) in sources.proofs.iter().filter(|(file, _)| !in_scope(file, claimed)) {
+        found.extend(kit.proved(repository, file, proof));
     }
     found
 }
@@ -198,6 +209,32 @@ impl Kit<'_> {
         let brought =
             imports.iter().any(|import| [name, &operator].contains(&import.name.as_str()));
         (brought || PRELUDE.contains(&name)) && self.has(name) && !CONSTRUCTORS.contains(&name)
+    }
+
+    /// What is called like a name of the kit's in a file where nothing is claimed. A law there may have
+    /// a constructor's name.
+    fn proved(&self, repository: &Repository, file: &str, proof: &Proof) -> Vec<String> {
+        let mut found = self.imported(repository, file, &proof.imports);
+        for import in &proof.imports {
+            let place = format!("{file}:{}", import.line);
+            match import.item.as_deref() {
+                Some("*") => found.push(format!("{place}: all names of a module are brought in")),
+                Some(item) if item != import.name && self.has(&import.name) => {
+                    found.push(format!("{place}: {item} is brought in as {}", import.name));
+                }
+                _ => {}
+            }
+        }
+        let taken = |name: &str| self.has(name) && !CONSTRUCTORS.contains(&name);
+        for declared in proof.declared.iter().filter(|d| d.kind != Kind::Field && taken(&d.name)) {
+            found.push(format!("{file}:{}: {} is defined", declared.line, declared.name));
+        }
+        for (name, line) in proof.lets.iter().filter(|(name, _)| taken(name)) {
+            found.push(format!("{file}:{line}: {name} is bound"));
+        }
+        let named = proof.modules.iter().filter(|module| self.has(module) || self.root(module));
+        found.extend(named.map(|module| format!("{file}: a module is called {module}")));
+        found
     }
 
     /// What comes from elsewhere under a name of the kit's.
