@@ -136,7 +136,8 @@ pub fn symbols(
         found.extend(kit.imported(repository, file, imports));
         if let Some(proof) = sources.proofs.get(file) {
             for declared in &proof.declared {
-                if declared.kind != Kind::Field && kit.has(&declared.name) {
+                let name = &declared.name;
+                if declared.kind != Kind::Field && (kit.has(name) || kit.root(name)) {
                     found.push(format!("{file}:{}: {} is defined", declared.line, declared.name));
                 }
             }
@@ -225,7 +226,8 @@ impl Kit<'_> {
                 _ => {}
             }
         }
-        let taken = |name: &str| self.has(name) && !CONSTRUCTORS.contains(&name);
+        let taken =
+            |name: &str| (self.has(name) || self.root(name)) && !CONSTRUCTORS.contains(&name);
         for declared in proof.declared.iter().filter(|d| d.kind != Kind::Field && taken(&d.name)) {
             found.push(format!("{file}:{}: {} is defined", declared.line, declared.name));
         }

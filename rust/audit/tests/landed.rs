@@ -166,6 +166,7 @@ fn a_symbol_defined() {
         ("open Order o using (less as ◌<◌)\n", "◌<◌ is defined"),
         ("open Order o using (length)\n", "length is defined"),
         ("pub mod lib\n", "a module is called lib"),
+        ("data lib : Type 0 where\n", "lib is defined"),
     ] {
         proof(text).into_iter().for_each(|found| some(found, told));
     }
