@@ -57,7 +57,7 @@ fn printed(input: &[u8], how: Feed) -> Vec<u8> {
         .stdout(Stdio::piped())
         .stderr(Stdio::piped())
         .spawn()
-        .unwrap_or_else(|error| panic!("{}: {error}; `rt check listing` makes it", path.display()));
+        .unwrap_or_else(|error| panic!("{}: {error}; `make target/bin/listing` makes it", path.display()));
     // It prints nothing before it has read all, so neither waits for the other.
     feed(child.stdin.take().expect("piped"), input, how);
     let output = child.wait_with_output().expect("the program ends");
