@@ -1,0 +1,2 @@
+pub mod LentOne
+pub mod LentTwo
