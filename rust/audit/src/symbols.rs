@@ -213,7 +213,7 @@ impl Kit<'_> {
     }
 
     /// What is called like a name of the kit's in a file where nothing is claimed. A law there may have
-    /// a constructor's name.
+    /// a constructor's name, or one that clauses alone are lent.
     fn proved(&self, repository: &Repository, file: &str, proof: &Proof) -> Vec<String> {
         let mut found = self.imported(repository, file, &proof.imports);
         for import in &proof.imports {
@@ -226,8 +226,10 @@ impl Kit<'_> {
                 _ => {}
             }
         }
-        let taken =
-            |name: &str| (self.has(name) || self.root(name)) && !CONSTRUCTORS.contains(&name);
+        let taken = |name: &str| {
+            let free = CONSTRUCTORS.contains(&name) || LENT.contains(&name);
+            (self.has(name) || self.root(name)) && !free
+        };
         for declared in proof.declared.iter().filter(|d| d.kind != Kind::Field && taken(&d.name)) {
             found.push(format!("{file}:{}: {} is defined", declared.line, declared.name));
         }
