@@ -91,8 +91,8 @@ module _ (source d : ℕ) (pairs : List ℕ) (u p : ℕ) where
       place-upto same entry entries k entry (omega (arith, entries-length source d pairs))
       (ap (same entry) (entry-is source d pairs k entry h) ∙ same-entry source u p (users_at pairs k) (permissions_at pairs k) eu ep)
 
-  first_there : (k : ℕ) → k ≤ d → Absent k pairs u p → k ≤ place_of same entry entries
-  first_there k h a =
+  first-of : (k : ℕ) → k ≤ d → Absent k pairs u p → k ≤ place_of same entry entries
+  first-of k h a =
       place-from same entry entries k entry (omega (arith, entries-length source d pairs))
       (λ i w. ap (same entry) (entry-is source d pairs i entry (omega arith)) ∙ other-entry source u p (users_at pairs i) (permissions_at pairs i) (a.nowhere i w))
 
@@ -100,7 +100,7 @@ module _ (source d : ℕ) (pairs : List ℕ) (u p : ℕ) where
   pub entered-old : (k : ℕ) → k < d → users_at pairs k ≡ u → permissions_at pairs k ≡ p → Absent k pairs (users_at pairs k) (permissions_at pairs k)
       → Entered source entry d pairs pairs k
   entered-old k h eu ep a =
-      let e : k ≡ place_of same entry entries = omega (arith, first_there k (omega arith) (rw (eu, ep) at a), last_of k h eu ep) in
+      let e : k ≡ place_of same entry entries = omega (arith, first-of k (omega arith) (rw (eu, ep) at a), last_of k h eu ep) in
       record {
         place = e;
         most = omega arith;
@@ -123,7 +123,7 @@ module _ (source d : ℕ) (pairs : List ℕ) (u p : ℕ) where
   pub entered-new : 2 * d + 1 < length pairs → (pairs' : List ℕ) → pairs' ≡ with_pair pairs d u p → Absent d pairs u p → Entered source entry d pairs pairs' d
   entered-new h pairs' q a =
       let e : d ≡ place_of same entry entries
-      = omega (arith, first_there d (omega arith) a, place-most same entry entries, entries-length source d pairs) in
+      = omega (arith, first-of d (omega arith) a, place-most same entry entries, entries-length source d pairs) in
       record {
         place = e;
         most = omega arith;
