@@ -5,7 +5,7 @@
 -- Assumes nothing.
 use mathlib.Core.Path.{◌≡◌, sym, ap, ap₂, ◌∙◌}
 use mathlib.Core.Bool.{Bool, true, false, ◌&&◌, ◌||◌, or-false}
-use mathlib.Core.Option.{none, some}
+use Rattle.std.proofs.Common.{None, Some}
 use Prim.Native.Nat.{ℕ, ◌+◌, ◌≤◌, ◌<◌, ◌^◌}
 use native.Mathlib.Nat.{lt_of_lt_of_le}
 use native.Mathlib.Omega.{arith}
@@ -69,11 +69,11 @@ module _ (n : ℕ) (f : ℕ → Bool) (x : ℕ) (ex : x ≡ set_of n f) where
   member_of : (j : ℕ) → has x j ≡ (ltb j n && f j)
   member_of j = ap (λ (s : ℕ). has s j) ex ∙ has-set_of n f j
 
-  pub lowest-of : (r : ℕ) → Lowest x r → lowest_below n f ≡ some r
+  pub lowest-of : (r : ℕ) → Lowest x r → lowest_below n f ≡ Some r
   lowest-of r w =
       let b = and_yes (ltb r n) (f r) (sym (member_of r) ∙ w.member) in
       let l : r < n = ltb-true r n b.0 in
       lowest-is f n r l b.1 (λ j m. sym (has-below n f j (omega arith)) ∙ ap (λ (s : ℕ). has s j) (sym ex) ∙ w.below j m)
 
-  pub none_of : x ≡ 0 → lowest_below n f ≡ none
+  pub none_of : x ≡ 0 → lowest_below n f ≡ None
   none_of z = lowest-none f n (λ j m. sym (has-below n f j m) ∙ ap (λ (s : ℕ). has s j) (sym ex ∙ z) ∙ has-none j)

@@ -1,7 +1,8 @@
 // Sets of the numbers 0 to 63, as the bits of a u64.
 #![tactic(auto)]
 
-ghost use Rattle.std.specs.Prelude.{◌≡◌, ℕ, ◌<◌, ◌≤◌, ◌^◌, eqb, ltb};
+ghost use Rattle.std.specs.Prelude.{◌≡◌, ℕ, ◌<◌, ◌≤◌, ◌^◌, eqb, ltb, MatchOption};
+ghost use Rattle.std.specs.Iterator.{at_most};
 ghost use Rattle.bitset.specs.Believed.Sets.{has, insert, remove, union, intersection, difference, count, Lowest};
 
 // Whether i is a member.
@@ -57,14 +58,14 @@ pub fn is_empty(set: u64) -> bool
 pub fn size(set: u64) -> u32
     ensures { result ≡ count set }
 {
-    u64::count_ones(set)
+    set.count_ones()
 }
 
 // How many are in `before` and not in `after`.
 pub fn count_lost(before: u64, after: u64) -> u32
     ensures { result ≡ count (difference before after) }
 {
-    u64::count_ones(before & !after)
+    (before & !after).count_ones()
 }
 
 // The lowest member of a set that is not empty.
@@ -72,7 +73,7 @@ pub fn lowest(set: u64) -> u32
     requires { 0 < set }
     ensures { Lowest set result × (result < 64) }
 {
-    u64::trailing_zeros(set)
+    set.trailing_zeros()
 }
 
 // A set that is not empty, without its lowest member: one less borrows from that member and fills what is below it.
@@ -88,5 +89,36 @@ pub fn all_below(set: u64, n: u32) -> bool
     requires { n ≤ 64 }
     ensures { result ≡ ltb set (2 ^ n) }
 {
-    if n == 64 { true } else { set >> n == 0 }
+    n == 64 || set >> n == 0
+}
+
+// The members of a set, from the lowest on: of `rest` those that are to come.
+#[derive(Drop)]
+pub struct Members {
+    pub rest: u64,
+}
+
+impl Members {
+    pub fn of(set: u64) -> Members
+        ensures { result.rest ≡ set }
+    {
+        Members { rest: set }
+    }
+}
+
+impl Iterator for Members {
+    type Item = u32;
+
+    ghost next_gives = { λ s r t. MatchOption r ((s.rest ≡ 0) × (t.rest ≡ 0)) (λ i. (0 < s.rest) × Lowest s.rest i × (i < 64) × (t.rest ≡ remove s.rest i)) };
+
+    ghost remaining = { λ s. at_most s.rest };
+
+    fn next(&mut self) -> Option<u32> {
+        if is_empty(self.rest) {
+            return None;
+        }
+        let i = lowest(self.rest);
+        self.rest = without_lowest(self.rest);
+        Some(i)
+    }
 }

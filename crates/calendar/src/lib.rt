@@ -9,16 +9,16 @@ ghost use Rattle.calendar.specs.Believed.Calendar.{
   month_length,
   year_start,
   month_start,
-  minute_number,
   exists,
   year_on,
   month_on,
   date_at,
   date_of,
-  date_given,
   minute_of,
-  minute_given,
 };
+ghost use Rattle.refusal.specs.Believed.Ends.{outcome_of};
+
+use refusal::Refusal;
 
 mod tables; // the starts of the months
 
@@ -33,29 +33,11 @@ pub struct Date {
     pub minute: u32,
 }
 
-#[derive(Clone, Copy)]
-pub enum DateAnswer {
-    On(Date),
-    Refused(u8),
-}
-
-#[derive(Clone, Copy)]
-pub enum MinuteAnswer {
-    At(u32),
-    Refused(u8),
-}
-
 // The rule of the Gregorian leap years.
 fn is_leap(year: u32) -> bool
     ensures { result ≡ leap year }
 {
-    if year % 4 != 0 {
-        return false;
-    }
-    if year % 100 != 0 {
-        return true;
-    }
-    year % 400 == 0
+    year % 4 == 0 && (year % 100 != 0 || year % 400 == 0)
 }
 
 // The day number of 1 January of year 2001 + k. Where 2401 would start the formula is a day short.
@@ -158,61 +140,33 @@ fn date_at(t: u32) -> Date
 }
 
 // The date and time of day of minute t, or 33.
-pub fn date_of(t: u32) -> DateAnswer
-    ensures { date_given result ≡ date_of t }
+pub fn date_of(t: u32) -> Result<Date, Refusal>
+    ensures { outcome_of result ≡ date_of t }
 {
     if minutes::END <= t {
-        return DateAnswer::Refused(33);
+        return Err(Refusal::NoSuchMinute);
     }
-    DateAnswer::On(date_at(t))
+    Ok(date_at(t))
 }
 
 // Whether a date and time of day exists and is in 2001 to 2400.
 fn is_date(year: u32, month: u32, day: u32, hour: u32, minute: u32) -> bool
     ensures { result ≡ exists year month day hour minute }
 {
-    if year < 2001 {
-        return false;
-    }
-    if 2400 < year {
-        return false;
-    }
-    if month < 1 {
-        return false;
-    }
-    if 12 < month {
-        return false;
-    }
-    if day < 1 {
-        return false;
-    }
-    if month_length(year, month) < day {
-        return false;
-    }
-    if 24 <= hour {
-        return false;
-    }
-    if 60 <= minute {
-        return false;
-    }
-    true
-}
-
-// The minute of a date and time of day that exists.
-fn minute_number(year: u32, month: u32, day: u32, hour: u32, minute: u32) -> u32
-    requires { exists year month day hour minute ≡ true }
-    ensures { result ≡ minute_number year month day hour minute }
-{
-    let days = year_start(year - 2001) + month_start(year, month - 1) + (day - 1);
-    days * 1440 + hour * 60 + minute
+    (2001..=2400).contains(&year)
+        && (1..=12).contains(&month)
+        && (1..=month_length(year, month)).contains(&day)
+        && hour < 24
+        && minute < 60
 }
 
 // The minute of a date and time of day, or 50.
-pub fn minute_of(year: u32, month: u32, day: u32, hour: u32, minute: u32) -> MinuteAnswer
-    ensures { minute_given result ≡ minute_of year month day hour minute }
+pub fn minute_of(year: u32, month: u32, day: u32, hour: u32, minute: u32) -> Result<u32, Refusal>
+    ensures { outcome_of result ≡ minute_of year month day hour minute }
 {
-    if is_date(year, month, day, hour, minute) {
-        return MinuteAnswer::At(minute_number(year, month, day, hour, minute));
+    if !is_date(year, month, day, hour, minute) {
+        return Err(Refusal::NoSuchDate);
     }
-    MinuteAnswer::Refused(50)
+    let days = year_start(year - 2001) + month_start(year, month - 1) + (day - 1);
+    Ok(days * 1440 + hour * 60 + minute)
 }

@@ -2,18 +2,19 @@
 --     by-rota          the sets of the table that the rules give are the rota's
 --     board-agrees     sets and count of the table in the bytes
 -- Assumes nothing.
+use Rattle.std.specs.Prelude.{is_some}
 use Prim.Native.Nat.{ℕ, ◌<◌}
 use mathlib.Core.Path.{◌≡◌, refl, sym, ◌∙◌, ap}
 use mathlib.Core.Logic.{◌↔◌}
 use mathlib.Core.Bool.{Bool, true, false}
-use mathlib.Core.Option.{Option}
+use Rattle.std.proofs.Common.{Option, None, Some}
 use mathlib.Core.List.{List}
 use lib.Dec.{ltb, eqb}
 use lib.ListN.{length}
-use borrow.Author.Tests.{ltb-true, lt-ltb, eqb-true, eq-eqb}
+use borrow.Author.Tests.{ltb-true, eqb-true, eq-eqb}
 use Rattle.ground.specs.Believed.Choice.{pick}
 use Rattle.ground.specs.Believed.Search.{count_below}
-use Rattle.ground.proofs.BoolLaws.{and_yes, and_both, and-three, and-all, eq-ext}
+use Rattle.ground.proofs.BoolLaws.{and_yes, and_both, and-three, and-all, clash, eq-ext}
 use Rattle.ground.proofs.SearchLaws.{any_out, any-stop, count_same}
 use Rattle.ground.proofs.SequenceLaws.{list_of-length, get-list_of, list_of-same}
 use Rattle.bitset.proofs.SetLaws.{set_of-same}
@@ -62,19 +63,21 @@ acting-means ρ t r = (
 module _ (s : List ℕ) (a : table_judged s ≡ 0) (r t : ℕ) where
   row-enables : role_on s t r ≡ true → (i : ℕ) × EnabledFor (table_of s) r t i
   unfolding table_of
-  row-enables h =
-      let k = row_for s r t in
-      let l : k < rows_of s = ltb-true k (rows_of s) h in
-      let z = row-there s r t k refl l in
-      let i = (row_of s k).derived in
-      let m : i < derived_of s = ((table-fine s a).rows k l).alone.derived in (
-        i,
-        record {
-          below = rw list_of-length m;
-          source = ap (λ (e : Entry). e.source) (get-list_of (derived_of s) (entry_of s) no_entry i m) ∙ z.0;
-          on = enabled-is s i t ∙ any-stop (enables s t i) (rows_of s) k l (and_both _ _ (eq-eqb i i refl) z.1);
-        },
-      )
+  row-enables h = go (row_for s r t) refl h
+    where
+      go : (o : Option ℕ) → row_for s r t ≡ o → is_some o ≡ true → (i : ℕ) × EnabledFor (table_of s) r t i
+      go None e h = absurd (clash _ h refl)
+      go (Some k) e h =
+          let z = row-there s r t k e in
+          let i = (row_of s k).derived in
+          let m : i < derived_of s = ((table-fine s a).rows k z.0).alone.derived in (
+            i,
+            record {
+              below = rw list_of-length m;
+              source = ap (λ (x : Entry). x.source) (get-list_of (derived_of s) (entry_of s) no_entry i m) ∙ z.1;
+              on = enabled-is s i t ∙ any-stop (enables s t i) (rows_of s) k z.0 (and_both _ _ (eq-eqb i i refl) z.2);
+            },
+          )
 
   enables-row : (i : ℕ) × EnabledFor (table_of s) r t i → role_on s t r ≡ true
   unfolding table_of
@@ -85,7 +88,7 @@ module _ (s : List ℕ) (a : table_judged s ≡ 0) (r t : ℕ) where
       let q : source_of s k ≡ r
       = ap (λ (j : ℕ). (entry_of s j).source) (eqb-true (row_of s k).derived i y.0)
       ∙ sym (ap (λ (x : Entry). x.source) (get-list_of (derived_of s) (entry_of s) no_entry i (rw list_of-length at e.below))) ∙ e.source in
-      rw (← (row-found s a r t k z.1 (and_both _ _ (eq-eqb (source_of s k) r q) y.1))) (lt-ltb k (rows_of s) z.1)
+      sym (ap is_some (row-found s a r t k z.1 (and_both _ _ (eq-eqb (source_of s k) r q) y.1)))
 
 roles-are : (s bytes : List ℕ) → Demand3 s bytes → roles_of bytes ≡ length (rota_of s).roles
 unfolding table_of rewrite unjoined

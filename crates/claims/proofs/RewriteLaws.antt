@@ -7,7 +7,7 @@
 use Prim.Native.Nat.{ℕ, zero, suc}
 use mathlib.Core.Path.{◌≡◌, refl}
 use mathlib.Core.Bool.{not, ◌&&◌}
-use mathlib.Core.Option.{Option, none, some}
+use Rattle.std.proofs.Common.{Option, None, Some}
 use mathlib.Core.List.{List, [], ◌∷◌, ◌++◌, map}
 use lib.Dec.{eqb}
 use lib.ListN.{length}
@@ -39,8 +39,8 @@ module _ (ρ : Rota) (w : RotaWell ρ) where
   tidy-active r t = λ i. tidy-enabled ρ r t i && not (eqb (tidy-users-at r t i) 0) && not (eqb (tidy-permissions-at r t i) 0)
 
   derived-there : (r : ℕ) (o : Option ℕ) → derived_there (tidy ρ) r o ≡ derived_there ρ r o
-  derived-there r none = refl
-  derived-there r (some t) = λ i. some (record { source = r; users = tidy-users-at r t i; permissions = tidy-permissions-at r t i })
+  derived-there r None = refl
+  derived-there r (Some t) = λ i. Some (record { source = r; users = tidy-users-at r t i; permissions = tidy-permissions-at r t i })
 
   pub tidy-kept-as : (r : ℕ) (f : Window) → kept_as (tidy ρ) r f ≡ kept_as ρ r f
   unfolding tidy kept_as

@@ -1,6 +1,5 @@
 -- What document 01 marks for proof under "Worked minutes", and what items 3, 4 and 5 of document 02 give on S, as one statement.
-use Rattle.std.specs.Prelude.{◌≡◌, length, replicate}
-use Rattle.std.proofs.Math.Option.{none}
+use Rattle.std.specs.Prelude.{◌≡◌, length, replicate, None}
 use mathlib.Core.List.{◌∷◌, Memᴰ}
 use Rattle.ground.specs.Believed.Outcome.{refused, given}
 use Rattle.calendar.specs.Believed.Calendar.{date_at, minute_of}
@@ -35,7 +34,7 @@ pub record Worked : Type 0 where
   pub board-12 : shown_at (rewrite (rota_of small)) 12 ≡ record { rows = 1; permissions = 1 ∷ 1 ∷ replicate 62 0 }
   pub board-37 : shown_at (rewrite (rota_of small)) 37 ≡ record { rows = 0; permissions = replicate 64 0 }
   -- C 10, hours (3, 5, pair (0, 10)) and (0, E, pair (6, 2)): era 3 to 5 keeps no field with cell 6 to 8, though it has one
-  pub era-3-to-5 : Memᴰ field (fields example) × (kept_as example 0 field ≡ none)
+  pub era-3-to-5 : Memᴰ field (fields example) × (kept_as example 0 field ≡ None)
       × ((k : Kept) → Memᴰ k (kept example) → k.field ≡ field → ⊥)
   -- 29 February 2004, 00:00, is minute 1,661,760, a Sunday; the last minute is a Sunday
   pub leap-day-is : minute_of 2004 2 29 0 0 ≡ given 1661760

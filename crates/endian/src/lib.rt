@@ -17,21 +17,30 @@ pub fn read16(s: &[u8], at: usize) -> u16
     requires { at + 2 ≤ length s.now }
     ensures { result ≡ u16_at s.now at }
 {
-    s[at] as u16 + 256 * (s[at + 1] as u16)
+    u16::from_le_bytes([s[at], s[at + 1]])
 }
 
 pub fn read32(s: &[u8], at: usize) -> u32
     requires { at + 4 ≤ length s.now }
     ensures { result ≡ u32_at s.now at }
 {
-    read16(s, at) as u32 + 65536 * (read16(s, at + 2) as u32)
+    u32::from_le_bytes([s[at], s[at + 1], s[at + 2], s[at + 3]])
 }
 
 pub fn read64(s: &[u8], at: usize) -> u64
     requires { at + 8 ≤ length s.now }
     ensures { result ≡ u64_at s.now at }
 {
-    read32(s, at) as u64 + 4294967296 * (read32(s, at + 4) as u64)
+    u64::from_le_bytes([
+        s[at],
+        s[at + 1],
+        s[at + 2],
+        s[at + 3],
+        s[at + 4],
+        s[at + 5],
+        s[at + 6],
+        s[at + 7],
+    ])
 }
 
 // The writers store the number's bytes at `at` and keep every other byte.
@@ -46,22 +55,19 @@ pub fn write16(d: &mut [u8], at: usize, v: u16)
     requires { at + 2 ≤ length d.old }
     ensures { d.new ≡ sets d.old at (bytes16 v) }
 {
-    d[at] = (v % 256) as u8;
-    d[at + 1] = (v / 256) as u8;
+    d[at..at + 2].copy_from_slice(&v.to_le_bytes());
 }
 
 pub fn write32(d: &mut [u8], at: usize, v: u32)
     requires { at + 4 ≤ length d.old }
     ensures { d.new ≡ sets d.old at (bytes32 v) }
 {
-    write16(d, at, (v % 65536) as u16);
-    write16(d, at + 2, (v / 65536) as u16);
+    d[at..at + 4].copy_from_slice(&v.to_le_bytes());
 }
 
 pub fn write64(d: &mut [u8], at: usize, v: u64)
     requires { at + 8 ≤ length d.old }
     ensures { d.new ≡ sets d.old at (bytes64 v) }
 {
-    write32(d, at, (v % 4294967296) as u32);
-    write32(d, at + 4, (v / 4294967296) as u32);
+    d[at..at + 8].copy_from_slice(&v.to_le_bytes());
 }

@@ -8,7 +8,7 @@ use Prim.Native.Nat.{ℕ, ◌≤◌, ◌<◌}
 use mathlib.Core.Path.{◌≡◌, refl, sym, ◌∙◌, ap}
 use mathlib.Core.Logic.{◌↔◌, ⊎_elim}
 use mathlib.Core.Bool.{Bool, true, false, ◌&&◌}
-use mathlib.Core.Option.{Option, none, some}
+use Rattle.std.proofs.Common.{Option, None, Some}
 use native.Mathlib.Nat.{le_refl, le_antisymm}
 use native.Mathlib.Omega.{arith}
 use borrow.Author.Tests.{leb-true, le-leb}
@@ -31,7 +31,7 @@ module _ (m n : ℕ) (f : ℕ → Bool) where
   excluded : (v : ℕ) → (m ≤ v → f v ≡ false) → (leb m v && f v) ≡ false
   excluded v h = not_yes (leb m v && f v) (λ g. let z = parts v g in clash (f v) z.1 (h z.0))
 
-  pub from_at : (k : ℕ) → (lowest_below n (λ i. leb m i && f i) ≡ some k)
+  pub from_at : (k : ℕ) → (lowest_below n (λ i. leb m i && f i) ≡ Some k)
       ↔ ((m ≤ k) × (k < n) × (f k ≡ true) × ((v : ℕ) → m ≤ v → v < k → f v ≡ false))
   from_at k = (
     (λ e.
@@ -41,7 +41,7 @@ module _ (m n : ℕ) (f : ℕ → Bool) where
     (λ z. lowest-is _ n k z.1 (passing k z.0 z.2) (λ v b. excluded v (λ l. z.3 v l b))),
   )
 
-  pub from-none : (lowest_below n (λ i. leb m i && f i) ≡ none) ↔ ((v : ℕ) → m ≤ v → v < n → f v ≡ false)
+  pub from-none : (lowest_below n (λ i. leb m i && f i) ≡ None) ↔ ((v : ℕ) → m ≤ v → v < n → f v ≡ false)
   from-none = (
     (λ e v l b. failing v (lowest-no _ n e v b) l),
     (λ h. lowest-none _ n (λ v b. excluded v (λ l. h v l b))),
@@ -59,13 +59,13 @@ module _ (m n : ℕ) (f : ℕ → Bool) where
   first-is r e = rw e (go (lowest_below n (λ i. leb m i && f i)) refl)
     where
       go : (o : Option ℕ) → lowest_below n (λ i. leb m i && f i) ≡ o → IsFirst (or_number n o)
-      go none h = record { most = le_refl n; from = λ l. absurd (omega arith); passes = λ l. absurd (omega arith); before = from-none.0 h }
-      go (some k) h = let z = (from_at k).0 h in record { most = omega arith; from = λ l. z.0; passes = λ l. z.2; before = z.3 }
+      go None h = record { most = le_refl n; from = λ l. absurd (omega arith); passes = λ l. absurd (omega arith); before = from-none.0 h }
+      go (Some k) h = let z = (from_at k).0 h in record { most = omega arith; from = λ l. z.0; passes = λ l. z.2; before = z.3 }
 
-  pub first_some : (r : ℕ) → IsFirst r → r < n → lowest_below n (λ i. leb m i && f i) ≡ some r
+  pub first_some : (r : ℕ) → IsFirst r → r < n → lowest_below n (λ i. leb m i && f i) ≡ Some r
   first_some r h l = (from_at r).1 (h.from l, l, h.passes l, h.before)
 
-  pub first-none : (r : ℕ) → IsFirst r → n ≤ r → lowest_below n (λ i. leb m i && f i) ≡ none
+  pub first-none : (r : ℕ) → IsFirst r → n ≤ r → lowest_below n (λ i. leb m i && f i) ≡ None
   first-none r h l = from-none.1 (λ v k b. h.before v k (omega arith))
 
   pub is-first : (r : ℕ) → IsFirst r → r ≡ first_from m n f

@@ -10,7 +10,7 @@ use Prim.Native.Nat.{ℕ, zero, suc, ◌+◌, ◌*◌, ◌≤◌, ◌<◌}
 use mathlib.Core.Path.{◌≡◌, refl, sym, ap, ap₂, ◌∙◌}
 use mathlib.Core.Logic.{⊎_elim}
 use mathlib.Core.Bool.{Bool, true, false, ◌||◌, or-true, or-false, or_assoc}
-use mathlib.Core.Option.{Option, none, some}
+use Rattle.std.proofs.Common.{Option, None, Some}
 use mathlib.Core.List.{List, [], ◌∷◌, ◌++◌}
 use native.Mathlib.Nat.{add-zero, zero-add, add-suc, mul-zero, mul-suc, not-suc-le-zero, le_of_suc-le-suc, eq-or-lt_of_le, le_refl, lt_trans}
 use native.Mathlib.Numerals.{add-one}
@@ -131,26 +131,26 @@ any-none-of zero f h = refl
 any-none-of (suc n) f h = rw (any-none-of n f (λ i l. h i (lt_trans l (le_refl (suc n)))), h n (le_refl (suc n))) refl
 
 module _ (f : ℕ → Bool) where
-  pub lowest-none : (n : ℕ) → ((i : ℕ) → i < n → f i ≡ false) → lowest_below n f ≡ none
+  pub lowest-none : (n : ℕ) → ((i : ℕ) → i < n → f i ≡ false) → lowest_below n f ≡ None
   unfolding lowest_below first_there
   lowest-none zero h = refl
   lowest-none (suc n) h =
-      ap₂ first_there (lowest-none n (λ i l. h i (lt_trans l (le_refl (suc n))))) (pick-false (f n) (some n) none (h n (le_refl (suc n))))
+      ap₂ first_there (lowest-none n (λ i l. h i (lt_trans l (le_refl (suc n))))) (pick-false (f n) (Some n) None (h n (le_refl (suc n))))
 
-  pub lowest-is : (n k : ℕ) → k < n → f k ≡ true → ((i : ℕ) → i < k → f i ≡ false) → lowest_below n f ≡ some k
+  pub lowest-is : (n k : ℕ) → k < n → f k ≡ true → ((i : ℕ) → i < k → f i ≡ false) → lowest_below n f ≡ Some k
   unfolding lowest_below first_there
   lowest-is zero k l e h = absurd (not-suc-le-zero l)
   lowest-is (suc n) k l e h =
       ⊎_elim
-      (λ (q : k ≡ n). rw (← q) (ap₂ first_there (lowest-none k h) (pick_true (f k) (some k) none e)))
-      (λ (m : k < n). ap (λ (o : Option ℕ). first_there o (pick (f n) (some n) none)) (lowest-is n k m e h))
+      (λ (q : k ≡ n). rw (← q) (ap₂ first_there (lowest-none k h) (pick_true (f k) (Some k) None e)))
+      (λ (m : k < n). ap (λ (o : Option ℕ). first_there o (pick (f n) (Some n) None)) (lowest-is n k m e h))
       (eq-or-lt_of_le (le_of_suc-le-suc l))
 
   -- there is a lowest one exactly when one passes
   pub record Lowest (n : ℕ) : Type 0 where
     pub number : ℕ
     pub below : number < n
-    pub is : lowest_below n f ≡ some number
+    pub is : lowest_below n f ≡ Some number
     pub passes : f number ≡ true
 
   pub lowest-some : (n : ℕ) → any_below n f ≡ true → Lowest n
@@ -165,43 +165,43 @@ module _ (f : ℕ → Bool) where
           record {
             number = r.number;
             below = lt_trans r.below (le_refl (suc n));
-            is = ap (λ (o : Option ℕ). first_there o (pick (f n) (some n) none)) r.is;
+            is = ap (λ (o : Option ℕ). first_there o (pick (f n) (Some n) None)) r.is;
             passes = r.passes;
           }
       go false e before k =
           unfold lowest_below in
-          record { number = n; below = le_refl (suc n); is = ap₂ first_there (lowest-none n (any-no n f e)) (pick_true (f n) (some n) none k); passes = k }
+          record { number = n; below = le_refl (suc n); is = ap₂ first_there (lowest-none n (any-no n f e)) (pick_true (f n) (Some n) None k); passes = k }
 
   -- what the lowest one is, and that there is none
-  pub lowest-no : (n : ℕ) → lowest_below n f ≡ none → (i : ℕ) → i < n → f i ≡ false
+  pub lowest-no : (n : ℕ) → lowest_below n f ≡ None → (i : ℕ) → i < n → f i ≡ false
   lowest-no n e i l = not_yes (f i) (λ h. differ (lowest-some n (any-stop f n i l h)))
     where
       differ : Lowest n → ⊥
       differ r = let q = r.is in let z : ◌≡◌ {A = ℕ} 0 1 = cc in omega arith
 
-  pub lowest-out : (n k : ℕ) → lowest_below n f ≡ some k → (k < n) × (f k ≡ true) × ((i : ℕ) → i < k → f i ≡ false)
+  pub lowest-out : (n k : ℕ) → lowest_below n f ≡ Some k → (k < n) × (f k ≡ true) × ((i : ℕ) → i < k → f i ≡ false)
   unfolding lowest_below first_there
   lowest-out zero k e = let z : ◌≡◌ {A = ℕ} 0 1 = cc in absurd (omega arith)
   lowest-out (suc n) k e = before (lowest-out n k) (lowest_below n f) refl e
     where
-      here : lowest_below n f ≡ none → (b : Bool) → f n ≡ b → pick b (some n) none ≡ some k → (k < suc n) × (f k ≡ true) × ((i : ℕ) → i < k → f i ≡ false)
+      here : lowest_below n f ≡ None → (b : Bool) → f n ≡ b → pick b (Some n) None ≡ Some k → (k < suc n) × (f k ≡ true) × ((i : ℕ) → i < k → f i ≡ false)
       here o true h q = let z : n ≡ k = cc in (omega arith, rw (← z) h, λ i l. lowest-no n o i (omega arith))
       here o false h q = let z : ◌≡◌ {A = ℕ} 0 1 = cc in absurd (omega arith)
 
-      before : (lowest_below n f ≡ some k → (k < n) × (f k ≡ true) × ((i : ℕ) → i < k → f i ≡ false)) → (o : Option ℕ) → lowest_below n f ≡ o
-          → first_there o (pick (f n) (some n) none) ≡ some k → (k < suc n) × (f k ≡ true) × ((i : ℕ) → i < k → f i ≡ false)
-      before ih none h q = here h (f n) refl q
-      before ih (some j) h q = let r = ih (h ∙ q) in (omega (arith, r.0), r.1, r.2)
+      before : (lowest_below n f ≡ Some k → (k < n) × (f k ≡ true) × ((i : ℕ) → i < k → f i ≡ false)) → (o : Option ℕ) → lowest_below n f ≡ o
+          → first_there o (pick (f n) (Some n) None) ≡ Some k → (k < suc n) × (f k ≡ true) × ((i : ℕ) → i < k → f i ≡ false)
+      before ih None h q = here h (f n) refl q
+      before ih (Some j) h q = let r = ih (h ∙ q) in (omega (arith, r.0), r.1, r.2)
 
 -- the lowest one by cases, and for tests that agree
-pub lowest-cases {ℓ} : (P : Option ℕ → Type ℓ) (n : ℕ) (f : ℕ → Bool) → ((k : ℕ) → k < n → f k ≡ true → P (some k))
-    → (((k : ℕ) → k < n → f k ≡ true → ⊥) → P none) → P (lowest_below n f)
+pub lowest-cases {ℓ} : (P : Option ℕ → Type ℓ) (n : ℕ) (f : ℕ → Bool) → ((k : ℕ) → k < n → f k ≡ true → P (Some k))
+    → (((k : ℕ) → k < n → f k ≡ true → ⊥) → P None) → P (lowest_below n f)
 unfolding lowest_below first_there
 lowest-cases P zero f found no_one = no_one (λ k l h. not-suc-le-zero l)
 lowest-cases P (suc n) f found no_one =
-    lowest-cases (λ o. P (first_there o (pick (f n) (some n) none))) n f (λ k l h. found k (lt_trans l (le_refl (suc n))) h) (λ h. last h (f n) refl)
+    lowest-cases (λ o. P (first_there o (pick (f n) (Some n) None))) n f (λ k l h. found k (lt_trans l (le_refl (suc n))) h) (λ h. last h (f n) refl)
   where
-    last : ((k : ℕ) → k < n → f k ≡ true → ⊥) → (b : Bool) → f n ≡ b → P (pick b (some n) none)
+    last : ((k : ℕ) → k < n → f k ≡ true → ⊥) → (b : Bool) → f n ≡ b → P (pick b (Some n) None)
     last h true e = found n (le_refl (suc n)) e
     last h false e =
         no_one
@@ -211,5 +211,5 @@ pub lowest-same : (n : ℕ) (f g : ℕ → Bool) → ((i : ℕ) → i < n → f 
 unfolding lowest_below
 lowest-same zero f g h = refl
 lowest-same (suc n) f g h =
-    ap₂ (λ (o : Option ℕ) (b : Bool). first_there o (pick b (some n) none)) (lowest-same n f g (λ i l. h i (lt_trans l (le_refl (suc n)))))
+    ap₂ (λ (o : Option ℕ) (b : Bool). first_there o (pick b (Some n) None)) (lowest-same n f g (λ i l. h i (lt_trans l (le_refl (suc n)))))
     (h n (le_refl (suc n)))

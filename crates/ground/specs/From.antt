@@ -1,12 +1,11 @@
 -- A search from a number on.
-use Rattle.std.specs.Prelude.{ℕ, Bool, ◌&&◌, leb}
-use Rattle.std.proofs.Math.Option.{Option, none, some}
+use Rattle.std.specs.Prelude.{ℕ, Bool, ◌&&◌, leb, Option, None, Some}
 use Rattle.ground.specs.Believed.Search.{lowest_below}
 
 -- the number that is there, else n
 abbrev pub or_number : ℕ → Option ℕ → ℕ
-or_number n none = n
-or_number n (some k) = k
+or_number n None = n
+or_number n (Some k) = k
 
 -- of the numbers from m to before n the first that passes, or n
 unfoldable pub first_from : ℕ → ℕ → (ℕ → Bool) → ℕ

@@ -1,29 +1,22 @@
-// What the C interface tells, in plain numbers: each answer begins with a refusal's number, or 0, and values that an answer does not have are 0.
+// What the C interface tells, in plain numbers: each answer begins with a refusal's number, or 0, and values that an answer does not have are 0. Each is
+// made from the result of what was called.
 #![tactic(auto)]
 
-ghost use Rattle.std.specs.Prelude.{◌≡◌};
-ghost use Rattle.calendar.specs.Believed.Calendar.{date_given, minute_given};
-ghost use Rattle.policy.specs.Believed.Policy.{answer_given};
-ghost use Rattle.rota.specs.Believed.Answers.{rota_given};
-ghost use Rattle.table.specs.Believed.Answers.{table_given};
+ghost use Rattle.std.specs.Prelude.{◌≡◌, Option};
+ghost use Rattle.machine.specs.Believed.Machine.{closed, done};
+ghost use Rattle.machine.specs.Answers.{gives};
+ghost use Rattle.refusal.specs.Believed.Ends.{outcome_of};
+ghost use Rattle.host_answers.specs.Believed.Told.{told_by, question_told, next_told, rota_told, table_told, tidied_told, written_told, date_told, minute_told};
 ghost use Rattle.rewrite_area.specs.Answers.{written_given};
-ghost use Rattle.tidy_rota.specs.Answers.{tidied_given};
-ghost use Rattle.machine.specs.Answers.{advanced_step, changed_step, asked_step};
-ghost use Rattle.table_next.specs.Next.{next_given};
-ghost use Rattle.host_answers.specs.Believed.Told.{telling, question_told, next_told, leaving, stepped_by, rota_told, table_told, tidied_told, written_told, date_told, minute_told};
 
-use calendar::{DateAnswer, MinuteAnswer};
-use machine::{Advanced, Asked, Changed, Service};
-use policy::Answer;
+use calendar::Date;
+use machine::Service;
+use refusal::Refusal;
 use rewrite_area::Rewritten;
-use rota::RotaAnswer;
-use table::TableAnswer;
-use table_next::Next;
-use tidy_rota::Tidied;
 
 // What reading a rota tells: the counts of its header.
 #[repr(C)]
-#[derive(Clone, Copy)]
+#[derive(Clone, Copy, Default)]
 pub struct RotaTold {
     pub refusal: u32,
     pub cycle: u32,
@@ -36,9 +29,33 @@ pub struct RotaTold {
     pub format: u32,
 }
 
+impl From<Result<rota::Counts, Refusal>> for RotaTold {
+    ghost from_gives = { λ r told. told ≡ rota_told (outcome_of r) };
+
+    fn from(r: Result<rota::Counts, Refusal>) -> RotaTold {
+        match r {
+            Ok(n) => RotaTold {
+                refusal: 0,
+                cycle: n.cycle,
+                hours: n.hours,
+                users: n.users,
+                permissions: n.permissions,
+                roles: n.roles,
+                user_rows: n.user_rows,
+                permission_rows: n.permission_rows,
+                format: n.format,
+            },
+            Err(refusal) => RotaTold {
+                refusal: refusal.into(),
+                ..RotaTold::default()
+            },
+        }
+    }
+}
+
 // What reading a table tells: the counts of its header.
 #[repr(C)]
-#[derive(Clone, Copy)]
+#[derive(Clone, Copy, Default)]
 pub struct TableTold {
     pub refusal: u32,
     pub cycle: u32,
@@ -49,6 +66,28 @@ pub struct TableTold {
     pub rows: u32,
 }
 
+impl From<Result<table::Counts, Refusal>> for TableTold {
+    ghost from_gives = { λ r told. told ≡ table_told (outcome_of r) };
+
+    fn from(r: Result<table::Counts, Refusal>) -> TableTold {
+        match r {
+            Ok(n) => TableTold {
+                refusal: 0,
+                cycle: n.cycle,
+                users: n.users,
+                permissions: n.permissions,
+                roles: n.roles,
+                derived: n.derived,
+                rows: n.rows,
+            },
+            Err(refusal) => TableTold {
+                refusal: refusal.into(),
+                ..TableTold::default()
+            },
+        }
+    }
+}
+
 // What tidying tells: the tidy rota's length.
 #[repr(C)]
 #[derive(Clone, Copy)]
@@ -57,9 +96,26 @@ pub struct TidiedTold {
     pub length: u64,
 }
 
+impl From<Result<usize, Refusal>> for TidiedTold {
+    ghost from_gives = { λ r told. told ≡ tidied_told (outcome_of r) };
+
+    fn from(r: Result<usize, Refusal>) -> TidiedTold {
+        match r {
+            Ok(length) => TidiedTold {
+                refusal: 0,
+                length: length as u64,
+            },
+            Err(refusal) => TidiedTold {
+                refusal: refusal.into(),
+                length: 0,
+            },
+        }
+    }
+}
+
 // What rewriting tells: the table's derived roles, rows and length.
 #[repr(C)]
-#[derive(Clone, Copy)]
+#[derive(Clone, Copy, Default)]
 pub struct WrittenTold {
     pub refusal: u32,
     pub derived: u32,
@@ -67,8 +123,27 @@ pub struct WrittenTold {
     pub length: u64,
 }
 
+impl From<Result<Rewritten, Refusal>> for WrittenTold {
+    ghost from_gives = { λ r told. told ≡ written_told (written_given r) };
+
+    fn from(r: Result<Rewritten, Refusal>) -> WrittenTold {
+        match r {
+            Ok(table) => WrittenTold {
+                refusal: 0,
+                derived: table.derived,
+                rows: table.rows,
+                length: table.length as u64,
+            },
+            Err(refusal) => WrittenTold {
+                refusal: refusal.into(),
+                ..WrittenTold::default()
+            },
+        }
+    }
+}
+
 #[repr(C)]
-#[derive(Clone, Copy)]
+#[derive(Clone, Copy, Default)]
 pub struct DateTold {
     pub refusal: u32,
     pub year: u32,
@@ -79,6 +154,28 @@ pub struct DateTold {
     pub minute: u32,
 }
 
+impl From<Result<Date, Refusal>> for DateTold {
+    ghost from_gives = { λ r told. told ≡ date_told (outcome_of r) };
+
+    fn from(r: Result<Date, Refusal>) -> DateTold {
+        match r {
+            Ok(date) => DateTold {
+                refusal: 0,
+                year: date.year,
+                month: date.month,
+                day: date.day,
+                weekday: date.weekday,
+                hour: date.hour,
+                minute: date.minute,
+            },
+            Err(refusal) => DateTold {
+                refusal: refusal.into(),
+                ..DateTold::default()
+            },
+        }
+    }
+}
+
 #[repr(C)]
 #[derive(Clone, Copy)]
 pub struct MinuteTold {
@@ -86,245 +183,113 @@ pub struct MinuteTold {
     pub minute: u32,
 }
 
-pub fn tell_rota(a: RotaAnswer) -> RotaTold
-    ensures { result ≡ rota_told (rota_given a) }
-{
-    match a {
-        RotaAnswer::Accepted(n) => RotaTold {
-            refusal: 0,
-            cycle: n.cycle,
-            hours: n.hours,
-            users: n.users,
-            permissions: n.permissions,
-            roles: n.roles,
-            user_rows: n.user_rows,
-            permission_rows: n.permission_rows,
-            format: n.format,
-        },
-        RotaAnswer::Refused(n) => RotaTold {
-            refusal: n as u32,
-            cycle: 0,
-            hours: 0,
-            users: 0,
-            permissions: 0,
-            roles: 0,
-            user_rows: 0,
-            permission_rows: 0,
-            format: 0,
-        },
-    }
-}
+impl From<Result<u32, Refusal>> for MinuteTold {
+    ghost from_gives = { λ r told. told ≡ minute_told (outcome_of r) };
 
-pub fn tell_table(a: TableAnswer) -> TableTold
-    ensures { result ≡ table_told (table_given a) }
-{
-    match a {
-        TableAnswer::Accepted(n) => TableTold {
-            refusal: 0,
-            cycle: n.cycle,
-            users: n.users,
-            permissions: n.permissions,
-            roles: n.roles,
-            derived: n.derived,
-            rows: n.rows,
-        },
-        TableAnswer::Refused(n) => TableTold {
-            refusal: n as u32,
-            cycle: 0,
-            users: 0,
-            permissions: 0,
-            roles: 0,
-            derived: 0,
-            rows: 0,
-        },
-    }
-}
-
-pub fn tell_tidied(a: Tidied) -> TidiedTold
-    ensures { result ≡ tidied_told (tidied_given a) }
-{
-    match a {
-        Tidied::Wrote(length) => TidiedTold {
-            refusal: 0,
-            length: length as u64,
-        },
-        Tidied::Refused(n) => TidiedTold {
-            refusal: n as u32,
-            length: 0,
-        },
-    }
-}
-
-pub fn tell_written(a: Rewritten) -> WrittenTold
-    ensures { result ≡ written_told (written_given a) }
-{
-    match a {
-        Rewritten::Wrote {
-            derived,
-            rows,
-            length,
-        } => WrittenTold {
-            refusal: 0,
-            derived,
-            rows,
-            length: length as u64,
-        },
-        Rewritten::Refused(n) => WrittenTold {
-            refusal: n as u32,
-            derived: 0,
-            rows: 0,
-            length: 0,
-        },
-    }
-}
-
-pub fn tell_date(a: DateAnswer) -> DateTold
-    ensures { result ≡ date_told (date_given a) }
-{
-    match a {
-        DateAnswer::On(d) => DateTold {
-            refusal: 0,
-            year: d.year,
-            month: d.month,
-            day: d.day,
-            weekday: d.weekday,
-            hour: d.hour,
-            minute: d.minute,
-        },
-        DateAnswer::Refused(n) => DateTold {
-            refusal: n as u32,
-            year: 0,
-            month: 0,
-            day: 0,
-            weekday: 0,
-            hour: 0,
-            minute: 0,
-        },
-    }
-}
-
-pub fn tell_minute(a: MinuteAnswer) -> MinuteTold
-    ensures { result ≡ minute_told (minute_given a) }
-{
-    match a {
-        MinuteAnswer::At(t) => MinuteTold {
-            refusal: 0,
-            minute: t,
-        },
-        MinuteAnswer::Refused(n) => MinuteTold {
-            refusal: n as u32,
-            minute: 0,
-        },
-    }
-}
-
-// What a question or a call tells: a refusal's number, else 0; 1 for yes, else 0; the role of a yes, the count of an advance, else 0.
-#[repr(C)]
-#[derive(Clone, Copy)]
-pub struct Told {
-    pub refusal: u32,
-    pub yes: u32,
-    pub value: u32,
-}
-
-pub fn tell_answer(a: Answer) -> Told
-    ensures { result ≡ question_told (answer_given a) }
-{
-    match a {
-        Answer::Yes(r) => Told {
-            refusal: 0,
-            yes: 1,
-            value: r as u32,
-        },
-        Answer::No => Told {
-            refusal: 0,
-            yes: 0,
-            value: 0,
-        },
-        Answer::Refused(n) => Told {
-            refusal: n as u32,
-            yes: 0,
-            value: 0,
-        },
+    fn from(r: Result<u32, Refusal>) -> MinuteTold {
+        match r {
+            Ok(minute) => MinuteTold { refusal: 0, minute },
+            Err(refusal) => MinuteTold {
+                refusal: refusal.into(),
+                minute: 0,
+            },
+        }
     }
 }
 
 // What is told of the next use of a permission: 1 and its minute, or 0 and 0 for none before the end of 2400.
 #[repr(C)]
-#[derive(Clone, Copy)]
+#[derive(Clone, Copy, Default)]
 pub struct NextTold {
     pub refusal: u32,
     pub found: u32,
     pub minute: u32,
 }
 
-pub fn tell_next(a: Next) -> NextTold
-    ensures { result ≡ next_told (next_given a) }
-{
-    match a {
-        Next::At(t) => NextTold {
-            refusal: 0,
-            found: 1,
-            minute: t,
-        },
-        Next::Never => NextTold {
-            refusal: 0,
-            found: 0,
-            minute: 0,
-        },
-        Next::Refused(n) => NextTold {
-            refusal: n as u32,
-            found: 0,
-            minute: 0,
-        },
+impl From<Result<Option<u32>, Refusal>> for NextTold {
+    ghost from_gives = { λ r told. told ≡ next_told (outcome_of r) };
+
+    fn from(r: Result<Option<u32>, Refusal>) -> NextTold {
+        match r {
+            Ok(Some(minute)) => NextTold {
+                refusal: 0,
+                found: 1,
+                minute,
+            },
+            Ok(None) => NextTold::default(),
+            Err(refusal) => NextTold {
+                refusal: refusal.into(),
+                ..NextTold::default()
+            },
+        }
     }
 }
 
-// The state that a call leaves, and what it tells.
+// What a question or a call tells: a refusal's number, else 0; 1 for yes, else 0; the role of a yes, the count of an advance, else 0.
+#[repr(C)]
+#[derive(Clone, Copy, Default)]
+pub struct Told {
+    pub refusal: u32,
+    pub yes: u32,
+    pub value: u32,
+}
+
+// A question, and an ask.
+impl From<Result<Option<u8>, Refusal>> for Told {
+    ghost from_gives = { λ r told. told ≡ question_told (outcome_of r) };
+
+    fn from(r: Result<Option<u8>, Refusal>) -> Told {
+        match r {
+            Ok(Some(role)) => Told {
+                refusal: 0,
+                yes: 1,
+                value: role.into(),
+            },
+            Ok(None) => Told::default(),
+            Err(refusal) => Told {
+                refusal: refusal.into(),
+                ..Told::default()
+            },
+        }
+    }
+}
+
+// An advance.
+impl From<Result<u32, Refusal>> for Told {
+    ghost from_gives = { λ r told. told ≡ told_by (gives closed r) };
+
+    fn from(r: Result<u32, Refusal>) -> Told {
+        match r {
+            Ok(value) => Told {
+                value,
+                ..Told::default()
+            },
+            Err(refusal) => Told {
+                refusal: refusal.into(),
+                ..Told::default()
+            },
+        }
+    }
+}
+
+// To open and to close a session.
+impl From<Result<(), Refusal>> for Told {
+    ghost from_gives = { λ r told. told ≡ told_by (gives (λ _. done) r) };
+
+    fn from(r: Result<(), Refusal>) -> Told {
+        match r {
+            Ok(()) => Told::default(),
+            Err(refusal) => Told {
+                refusal: refusal.into(),
+                ..Told::default()
+            },
+        }
+    }
+}
+
+// The state that a call leaves, and what it tells: the words in which the contracts of the lent calls say both at once.
 #[derive(Clone, Copy)]
 pub struct Stepped {
     pub service: Service,
     pub told: Told,
-}
-
-fn tell(service: Service, refusal: u32, yes: u32, value: u32) -> Stepped
-    ensures { result ≡ leaving service (telling refusal yes value) }
-{
-    Stepped {
-        service,
-        told: Told {
-            refusal,
-            yes,
-            value,
-        },
-    }
-}
-
-// What each call tells, and the state that it leaves.
-pub fn tell_advanced(a: Advanced) -> Stepped
-    ensures { result ≡ stepped_by (advanced_step a) }
-{
-    match a {
-        Advanced::Closed(n, after) => tell(after, 0, 0, n),
-        Advanced::Refused(n, after) => tell(after, n as u32, 0, 0),
-    }
-}
-
-pub fn tell_changed(a: Changed) -> Stepped
-    ensures { result ≡ stepped_by (changed_step a) }
-{
-    match a {
-        Changed::Done(after) => tell(after, 0, 0, 0),
-        Changed::Refused(n, after) => tell(after, n as u32, 0, 0),
-    }
-}
-
-pub fn tell_asked(a: Asked) -> Stepped
-    ensures { result ≡ stepped_by (asked_step a) }
-{
-    match a {
-        Asked::Yes(r, after) => tell(after, 0, 1, r as u32),
-        Asked::No(after) => tell(after, 0, 0, 0),
-        Asked::Refused(n, after) => tell(after, n as u32, 0, 0),
-    }
 }

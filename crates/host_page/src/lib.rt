@@ -3,18 +3,20 @@
 #![tactic(auto)]
 
 ghost use Rattle.std.specs.Prelude.{◌≡◌, ltb};
-ghost use Rattle.policy.specs.Believed.Policy.{answer_given};
+ghost use Rattle.refusal.specs.Believed.Numbers.{number};
+ghost use Rattle.refusal.specs.Believed.Ends.{outcome_of};
 ghost use Rattle.source.specs.declared.Kind.TheVariants as Kind;
 ghost use Rattle.host_page.specs.Believed.Page.{place_told, answered};
 ghost use Rattle.host_page.specs.Inside.{Ready, Begins, with_answer};
 
-use policy::Answer;
-use rota::{Layout, LayoutAnswer};
-use table::{Counts, TableAnswer};
+use refusal::Refusal;
+use rota::Layout;
+use rota::accepted::Rota;
+use table::{Counts, Table};
 
 // What a question's record has room for: a refusal's number, or 0; 1 for yes, else 0; the role of a yes, else 0.
 #[repr(C)]
-#[derive(Clone, Copy)]
+#[derive(Clone, Copy, Default)]
 pub struct Place {
     pub refusal: u32,
     pub yes: u32,
@@ -31,9 +33,29 @@ pub struct Question {
     pub answer: Place,
 }
 
+impl From<Result<Option<u8>, Refusal>> for Place {
+    ghost from_gives = { λ r place. place ≡ place_told (outcome_of r) };
+
+    fn from(r: Result<Option<u8>, Refusal>) -> Place {
+        match r {
+            Ok(Some(role)) => Place {
+                refusal: 0,
+                yes: 1,
+                role: role.into(),
+            },
+            Ok(None) => Place::default(),
+            Err(refusal) => Place {
+                refusal: refusal.into(),
+                ..Place::default()
+            },
+        }
+    }
+}
+
 // How a page begins: a refusal's number, or 0; how many questions are to be answered, none where anything is refused; and what answers them: where a
-// rota has its parts, or a table's counts, with where each role's rows begin if these are searched.
-#[derive(Clone, Copy)]
+// rota has its parts, or a table's counts, with where each role's rows begin if these are searched. (No Result and no enum: the law `meets` of
+// PageWalk.antt is over this struct, and a page is quicker where nothing is asked of each question but its own.)
+#[derive(Clone, Copy, Default)]
 pub struct Begun {
     pub refusal: u32,
     pub count: usize,
@@ -42,52 +64,14 @@ pub struct Begun {
     pub starts: [u64; 32],
 }
 
-// Where there is no rota.
-fn no_layout() -> Layout
-    ensures { result.hours_at ≡ 0 }
-{
-    Layout {
-        counts: rota::Counts {
-            cycle: 0,
-            hours: 0,
-            users: 0,
-            permissions: 0,
-            roles: 0,
-            user_rows: 0,
-            permission_rows: 0,
-            format: 0,
-        },
-        hours_at: 0,
-        roles_at: 0,
-        user_rows_at: 0,
-        permission_rows_at: 0,
-    }
-}
-
-// Where there is no table.
-fn no_counts() -> Counts
-    ensures { result.rows ≡ 0 }
-{
-    Counts {
-        cycle: 0,
-        users: 0,
-        permissions: 0,
-        roles: 0,
-        derived: 0,
-        rows: 0,
-    }
-}
-
 // Nothing is answered.
-fn refused(code: u8) -> Begun
-    ensures { (result.refusal ≡ code) × (result.count ≡ 0) }
+fn refused(refusal: Refusal) -> Begun
+    ensures { (result.refusal ≡ number refusal) × (result.count ≡ 0) }
 {
     Begun {
-        refusal: code as u32,
+        refusal: refusal.into(),
         count: 0,
-        layout: no_layout(),
-        counts: no_counts(),
-        starts: [0; 32],
+        ..Begun::default()
     }
 }
 
@@ -111,16 +95,17 @@ fn is_long(n: usize) -> bool
     256 < n
 }
 
-// Judges a list of n questions, then the rota.
+// Judges a list of n questions, then the rota. (A function for each of the two kinds: they read and keep other things, and a page of one kind tests no
+// kind at each question.)
 pub fn begin_rota(n: usize, s: &[u8]) -> Begun
     ensures { Begins Kind.Rota n s.now result }
 {
     if is_long(n) {
-        return refused(51);
+        return refused(Refusal::PageTooLong);
     }
-    match rota::locate(s) {
-        LayoutAnswer::Refused(code) => refused(code),
-        LayoutAnswer::Accepted(layout) => accepted(n, layout, no_counts(), [0; 32]),
+    match rota::accepted::open(s) {
+        Ok(rota) => accepted(n, rota.layout, Counts::default(), [0; 32]),
+        Err(refusal) => refused(refusal),
     }
 }
 
@@ -129,77 +114,55 @@ pub fn begin_table(n: usize, s: &[u8]) -> Begun
     ensures { Begins Kind.Table n s.now result }
 {
     if is_long(n) {
-        return refused(51);
+        return refused(Refusal::PageTooLong);
     }
-    match table_reader::read(s) {
-        TableAnswer::Refused(code) => refused(code),
-        TableAnswer::Accepted(counts) => accepted(
+    match table_reader::open(s) {
+        Ok(table) => accepted(
             n,
-            no_layout(),
-            counts,
-            table_questions::note_starts(s, counts),
+            Layout::default(),
+            table.counts,
+            table_questions::note_starts(&table),
         ),
-    }
-}
-
-// What a place receives.
-fn tell(a: Answer) -> Place
-    ensures { result ≡ place_told (answer_given a) }
-{
-    match a {
-        Answer::Yes(r) => Place {
-            refusal: 0,
-            yes: 1,
-            role: r as u32,
-        },
-        Answer::No => Place {
-            refusal: 0,
-            yes: 0,
-            role: 0,
-        },
-        Answer::Refused(n) => Place {
-            refusal: n as u32,
-            yes: 0,
-            role: 0,
-        },
+        Err(refusal) => refused(refusal),
     }
 }
 
 // A record with this answer in its place.
-fn put(q: Question, a: Answer) -> Question
-    ensures { result ≡ with_answer q (place_told (answer_given a)) }
+fn put(q: Question, a: Result<Option<u8>, Refusal>) -> Question
+    ensures { result ≡ with_answer q (place_told (outcome_of a)) }
 {
-    let user = q.user;
-    let permission = q.permission;
-    let minute = q.minute;
-    let answer = tell(a);
     Question {
-        user,
-        permission,
-        minute,
-        answer,
+        answer: a.into(),
+        ..q
     }
 }
 
 // A record with its answer by the rota that the page began with.
-pub fn answer_by_rota(q: Question, s: &[u8], b: Begun) -> Question
-    requires { Ready Kind.Rota s.now b }
+pub fn answer_by_rota(q: Question, s: &[u8], b: &Begun) -> Question
+    requires { Ready Kind.Rota s.now b.now }
     ensures { result ≡ answered Kind.Rota s.now q }
 {
+    let rota = Rota {
+        bytes: s,
+        layout: b.layout,
+    };
     put(
         q,
-        rota_answers::question_in(s, b.layout, q.user, q.permission, q.minute),
+        rota_answers::question_in(&rota, q.user, q.permission, q.minute),
     )
 }
 
 // A record with its answer by the table that the page began with.
-pub fn answer_by_table(q: Question, s: &[u8], b: Begun) -> Question
-    requires { Ready Kind.Table s.now b }
+pub fn answer_by_table(q: Question, s: &[u8], b: &Begun) -> Question
+    requires { Ready Kind.Table s.now b.now }
     ensures { result ≡ answered Kind.Table s.now q }
 {
-    let starts = b.starts;
+    let table = Table {
+        bytes: s,
+        counts: b.counts,
+    };
     put(
         q,
-        table_questions::question_by(s, b.counts, &starts, q.user, q.permission, q.minute),
+        table_questions::question_by(&table, &b.starts, q.user, q.permission, q.minute),
     )
 }

@@ -1,9 +1,11 @@
 -- What the steps inside promise each other and the crates above, which no reader has to believe.
-use Rattle.std.specs.Prelude.{ℕ, ◌+◌, ◌≤◌, Bool, true, List, ◌≡◌, length}
+use Rattle.std.specs.Prelude.{ℕ, ◌+◌, ◌≤◌, Bool, true, List, ◌≡◌, length, Result, IfOk}
 use Rattle.ground.specs.Believed.Judgement.{in_turn}
 use Rattle.ground.specs.Believed.Search.{any}
 use Rattle.bitset.specs.Believed.Sets.{has, set_of}
 use Rattle.minutes.specs.Believed.Minutes.{within}
+use Rattle.refusal.specs.Believed.Ends.{judgement_of}
+use Rattle.refusal.specs.declared.Refusal.{Refusal}
 use Rattle.hours.specs.Believed.Hours.{Pair, Hours, holds}
 use Rattle.hours.specs.Believed.HoursBytes.{record_at, hours_at}
 use Rattle.hours.specs.Believed.HoursRefusals.{record_judged}
@@ -11,10 +13,10 @@ use Rattle.hours.specs.declared.HoursRef.{HoursRef}
 use Rattle.hours.specs.declared.HoursRef.TheVariants.{Always, Numbered}
 
 -- what a walk over h records from `from` on leaves: the first refusal, and where there is none, where the records end
-pub record RecordsRead (s : List ℕ) (c from h code at : ℕ) : Type 0 where
-  pub judged : code ≡ in_turn (record_judged s c from) h
-  pub ends : code ≡ 0 → at ≡ record_at s from h
-  pub within : at ≤ length s
+pub record RecordsRead (s : List ℕ) (c from h : ℕ) (r : Result ℕ Refusal) : Type 0 where
+  pub judged : judgement_of r ≡ in_turn (record_judged s c from) h
+  pub ends : IfOk r (λ at. at ≡ record_at s from h)
+  pub within : IfOk r (λ at. at ≤ length s)
 
 -- a record by its two parts: its dates at minute t, and its pairs at phase x
 unfoldable pub dates_hold : ℕ → Hours → Bool

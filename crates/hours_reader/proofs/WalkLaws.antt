@@ -5,6 +5,7 @@
 --     Gathered, gather-..   and where it gathers the numbers of those that meet a test
 -- Assumes nothing.
 use Prim.Native.Nat.{ℕ, ◌+◌, ◌*◌, ◌≤◌, ◌<◌}
+use Rattle.std.proofs.Common.{Ok, Err}
 use mathlib.Core.Path.{◌≡◌, refl, sym, ◌∙◌, ap}
 use mathlib.Core.List.{List}
 use mathlib.Core.Bool.{Bool, true, false}
@@ -18,6 +19,8 @@ use Rattle.ground.proofs.OutcomeLaws.{refused-by, given_by}
 use Rattle.ground.proofs.JudgementLaws.{turns-none, turns_more, turns-stop, turns-all}
 use Rattle.bitset.specs.Believed.Sets.{insert}
 use Rattle.bitset.proofs.SetLaws.{set_of-none, turn_in, turn-out}
+use Rattle.refusal.specs.Believed.Numbers.{number}
+use Rattle.refusal.specs.declared.Refusal.{Refusal}
 use Rattle.hours.specs.Believed.Hours.{Hours}
 use Rattle.hours.specs.Believed.HoursBytes.{pairs_at, record_at, pairs_before, hours_at}
 use Rattle.hours.specs.Believed.HoursRefusals.{hours_judged, record_judged}
@@ -25,9 +28,8 @@ use Rattle.hours.specs.Answers.{hours_outcome}
 use Rattle.hours.specs.Inside.{RecordsRead, records_that}
 use Rattle.hours.proofs.JudgeLaws.{HoursFine, hours-fine}
 
--- k of the h records are read and none is refused; the next begins at `at`, and there were `total` pairs
-pub record Walked (s : List ℕ) (c from h k at total : ℕ) : Type 0 where
-  pub below : k ≤ h
+-- k records are read and none is refused; the next begins at `at`, and there were `total` pairs
+pub record Walked (s : List ℕ) (c from k at total : ℕ) : Type 0 where
   pub clear : in_turn (record_judged s c from) k ≡ 0
   pub here : at ≡ record_at s from k
   pub count : total ≡ pairs_before s from k
@@ -55,11 +57,10 @@ module _ (s : List ℕ) (from : ℕ) where
   pub place-more : (k at n : ℕ) → at ≡ record_at s from k → n ≡ pairs_at s at → at + 10 + 4 * n ≡ record_at s from (k + 1)
   place-more k at n here e = rw (e, record_at-more, here) refl
 
-  module _ (c h : ℕ) where
-    pub walked_none : from ≤ length s → Walked s c from h 0 from 0
+  module _ (c : ℕ) where
+    pub walked_none : from ≤ length s → Walked s c from 0 from 0
     walked_none l =
         record {
-          below = omega arith;
           clear = turns-none _;
           here = sym record_at-zero;
           count = sym pairs_before-zero;
@@ -67,60 +68,51 @@ module _ (s : List ℕ) (from : ℕ) where
           few = omega arith;
         }
 
-    module _ (k at total : ℕ) (w : Walked s c from h k at total) where
+    module _ (k at total : ℕ) (w : Walked s c from k at total) where
       judged-here : hours_judged s c at total ≡ record_judged s c from k
       unfolding record_judged
       judged-here = rw (w.here, w.count)
 
       -- the record where the walk stands is refused
-      pub walked_stop : (code : ℕ) → k < h → refused code ≡ hours_outcome s c at total → RecordsRead s c from h code at
+      pub walked_stop : (h : ℕ) (r : Refusal) → k < h → refused (number r) ≡ hours_outcome s c at total → RecordsRead s c from h (Err r)
       unfolding hours_outcome
-      walked_stop code l e =
-          let r = refused-by _ _ _ e in
-          record {
-            judged = sym (turns-stop _ h k l w.clear (λ z. r.1 (judged-here ∙ z)) ∙ sym judged-here ∙ r.0);
-            ends = λ z. absurd (r.1 (r.0 ∙ z));
-            within = w.within;
-          }
+      walked_stop h r l e =
+          let j = refused-by _ _ _ e in
+          record { judged = sym (turns-stop _ h k l w.clear (λ z. j.1 (judged-here ∙ z)) ∙ sym judged-here ∙ j.0); ends = tt; within = tt }
 
       -- or it is not, and has n pairs
-      pub here-fine : (n : ℕ) → given n ≡ hours_outcome s c at total → HoursFine s c at total
-      unfolding hours_outcome
-      here-fine n e = hours-fine s c at total (given_by _ _ _ e).0
+      module _ (n : ℕ) (e : given n ≡ hours_outcome s c at total) where
+        -- the next record begins within the bytes, and there are few pairs
+        pub fits-here : (at + 10 + 4 * n ≤ length s) × (total + n ≤ 256)
+        unfolding hours_outcome
+        fits-here =
+            let j = given_by _ _ _ e in
+            let f = hours-fine s c at total j.0 in
+            (omega (arith, f.within, j.1), omega (arith, f.few, j.1))
 
-      pub pairs-here : (n : ℕ) → given n ≡ hours_outcome s c at total → n ≡ pairs_at s at
-      unfolding hours_outcome
-      pairs-here n e = (given_by _ _ _ e).1
+        pub walked_more : Walked s c from (k + 1) (at + 10 + 4 * n) (total + n)
+        unfolding hours_outcome
+        walked_more =
+            let j = given_by _ _ _ e in
+            record {
+              clear = turns_more _ k w.clear (sym judged-here ∙ j.0);
+              here = place-more k at n w.here j.1;
+              count = rw (j.1, pairs_before-more, w.count, w.here) refl;
+              within = fits-here.0;
+              few = fits-here.1;
+            }
 
-      pub walked_more : (n : ℕ) → k < h → given n ≡ hours_outcome s c at total → Walked s c from h (k + 1) (at + 10 + 4 * n) (total + n)
-      unfolding hours_outcome
-      walked_more n l e =
-          let j = (given_by _ _ _ e).0 in
-          let p = (given_by _ _ _ e).1 in
-          let f = hours-fine s c at total j in
-          record {
-            below = omega arith;
-            clear = turns_more _ k w.clear (sym judged-here ∙ j);
-            here = place-more k at n w.here p;
-            count = rw (p, pairs_before-more, w.count, w.here) refl;
-            within = omega (arith, f.within, p);
-            few = omega (arith, f.few, p);
-          }
+    module _ (h : ℕ) where
+      -- all records are read
+      pub walked_all : (k at total : ℕ) → Walked s c from k at total → k ≤ h → h ≤ k → RecordsRead s c from h (Ok at)
+      walked_all k at total w m l =
+          let e : k ≡ h = le_antisymm m l in
+          record { judged = rw (← e) (sym w.clear); ends = rw (← e) w.here; within = w.within }
 
-    -- all records are read
-    pub walked_all : (k at total : ℕ) → Walked s c from h k at total → h ≤ k → RecordsRead s c from h 0 at
-    walked_all k at total w l =
-        let e : k ≡ h = le_antisymm w.below l in
-        record {
-          judged = rw (← e) (sym w.clear);
-          ends = λ z. rw (← e) w.here;
-          within = w.within;
-        }
-
-    -- record k of accepted records
-    pub record-fine : in_turn (record_judged s c from) h ≡ 0 → (k : ℕ) → k < h → HoursFine s c (record_at s from k) (pairs_before s from k)
-    unfolding record_judged
-    record-fine a k l = hours-fine _ _ _ _ (turns-all _ _ k l a)
+      -- record k of accepted records
+      pub record-fine : in_turn (record_judged s c from) h ≡ 0 → (k : ℕ) → k < h → HoursFine s c (record_at s from k) (pairs_before s from k)
+      unfolding record_judged
+      record-fine a k l = hours-fine _ _ _ _ (turns-all _ _ k l a)
 
 -- ---- a walk over accepted records
 -- the walk is past k of the h records, and the next begins at `at`

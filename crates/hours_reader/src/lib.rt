@@ -7,36 +7,22 @@ ghost use Rattle.hours.specs.Believed.Hours.{dangling};
 ghost use Rattle.hours.specs.Believed.HoursRefusals.{record_judged};
 ghost use Rattle.hours.specs.Inside.{RecordsRead, holding, ref_in};
 
-use hours::{HoursAnswer, HoursRef};
+use hours::HoursRef;
+use refusal::Refusal;
 
-// What a walk over hours records leaves: a refusal, or 0 and where the records end.
-#[derive(Clone, Copy)]
-pub struct Walk {
-    pub code: u8,
-    pub at: usize,
-}
-
-// The first refusal of the h records from `from` on.
-pub fn judge_all(s: &[u8], cycle: u32, from: usize, h: usize) -> Walk
+// Where the h records from `from` on end, or their first refusal.
+pub fn judge_all(s: &[u8], cycle: u32, from: usize, h: usize) -> Result<usize, Refusal>
     requires { from ≤ length s.now }
-    ensures { RecordsRead s.now cycle from h result.code result.at }
+    ensures { RecordsRead s.now cycle from h result }
 {
-    let mut k = 0;
     let mut at = from;
     let mut total = 0;
-    while k < h {
-        match hours::judge(s, cycle, at, total) {
-            HoursAnswer::Refused(code) => {
-                return Walk { code, at };
-            }
-            HoursAnswer::Accepted(n) => {
-                at = at + 10 + 4 * (n as usize);
-                total += n;
-                k += 1;
-            }
-        }
+    for _k in 0..h {
+        let n = hours::judge(s, cycle, at, total)?;
+        at = at + 10 + 4 * (n as usize);
+        total += n;
     }
-    Walk { code: 0, at }
+    Ok(at)
 }
 
 // Whether a reference holds, by the set of the records that hold. It is looked up by its number, always by 63, which no record has. The remainder
@@ -58,14 +44,12 @@ pub fn holding_at(s: &[u8], cycle: u32, from: usize, h: usize, t: u32) -> u64
     ensures { result ≡ holding s.now cycle from h t }
 {
     let mut set = 0;
-    let mut k = 0;
     let mut at = from;
-    while k < h {
+    for k in 0..h {
         if hours::record_holds(s, cycle, at, t) {
             set = bitset::with(set, k as u32);
         }
         at = hours::next_record(s, at);
-        k += 1;
     }
     set
 }

@@ -1,8 +1,8 @@
 -- How far a record that holds at a minute goes on holding.
 --     halved_none .. halved-all            the search for the first pair that ends after phase x
 --     reach-off, reach-on, reach-past      the first pair that ends after x decides, or there is none
---     span-out, span-gap, span-in          out of the record's dates, between its pairs, and in both
---     spans-none, spans-more, spans-past   the records so far, with one more that counts, and one that does not
+--     span-out, span-gap, span-in, span-there          out of the record's dates, between its pairs, and in both
+--     spans-none, spans-more, spans-off, spans-past   the records so far, with one more that counts and holds, one that does not hold, and one that does not count
 --     spans_all                            all of them
 --     passed-ready, record-ready           a record of accepted records
 -- Assumes nothing.
@@ -30,6 +30,8 @@ use Rattle.hours.specs.Inside.{dates_hold, pairs_hold, records_that, holding}
 use Rattle.hours.proofs.HoldsLaws.{span_at, pairs-yes, pairs-no, holds_parts, holds-in, holds-out}
 use Rattle.hours_reader.proofs.RecordLaws.{pairs-each, hours-well}
 use Rattle.hours_reader.proofs.WalkLaws.{Passed, passed_none, passed-more, passed-end, passed-fine}
+use Rattle.hours_times.specs.declared.Spans.{Spans}
+use Rattle.std.specs.Prelude.{Option, None, Some, IfNone, IfSome, is_some}
 use Rattle.hours_times.specs.Spans.{RecordReady, FirstEnding, PhaseSpan, RecordSpan, RecordsSpan}
 
 -- ---- pairs
@@ -101,18 +103,13 @@ module _ (s : List ℕ) (c at : ℕ) (w : RecordReady s c at) where
   module _ (x j : ℕ) where
     module _ (n : ℕ) (count : n ≡ pairs_at s at) (b : FirstEnding s at x n j) where
       -- pair j begins after x
-      pub reach-off : (o : ℕ) → j < n → o ≡ offset_at s (at + 10) j → x < o → PhaseSpan c (hours_at s at) x false o
+      pub reach-off : (o : ℕ) → j < n → o ≡ offset_at s (at + 10) j → x < o → pairs_hold x (hours_at s at) ≡ false
       reach-off o l eo m =
-          record {
-            after = m;
-            in-cycle = omega (arith, (pair-well j (omega arith)).ends, eo);
-            is = λ y p q.
-                clear y
-                (λ i k. ⊎_elim
-                (λ (a : i < j). inr (omega (arith, b.behind i a)))
-                (λ (a : j ≤ i). inl (omega (arith, rising j i a k, eo)))
-                (lt-or-le i j));
-          }
+          sym (clear x
+          (λ i k. ⊎_elim
+          (λ (a : i < j). inr (omega (arith, b.behind i a)))
+          (λ (a : j ≤ i). inl (omega (arith, rising j i a k, eo)))
+          (lt-or-le i j)))
 
       -- x is in pair j
       pub reach-on : (o e : ℕ) → j < n → o ≡ offset_at s (at + 10) j → o ≤ x → e ≡ o + length_at s (at + 10) j
@@ -127,13 +124,8 @@ module _ (s : List ℕ) (c at : ℕ) (w : RecordReady s c at) where
           }
 
       -- x is past the last pair
-      pub reach-past : x < c → n ≤ j → PhaseSpan c (hours_at s at) x false c
-      reach-past l m =
-          record {
-            after = l;
-            in-cycle = le_refl c;
-            is = λ y p q. clear y (λ i k. inr (omega (arith, b.behind i (omega arith))));
-          }
+      pub reach-past : n ≤ j → pairs_hold x (hours_at s at) ≡ false
+      reach-past m = sym (clear x (λ i k. inr (omega (arith, b.behind i (omega arith)))))
 
 -- ---- dates
 module _ (c : ℕ) (h : Hours) (t : ℕ) where
@@ -147,23 +139,20 @@ module _ (c : ℕ) (h : Hours) (t : ℕ) where
   dates-in d = let p = and_yes _ _ d in (leb-true _ _ p.0, ltb-true _ _ p.1)
 
   -- it does not hold, by its dates or by its pairs
-  off : holds c h t ≡ false → t < E → RecordSpan c h t false E E
-  off e l = record { is = sym e; lasts = λ z. clash false z refl; after = l; longer = l; era-most = le_refl E }
+  pub span-out : {d : Bool} → d ≡ dates_hold t h → d ≡ false → holds c h t ≡ false
+  span-out ed e = sym (holds-out c h t _ ed e)
 
-  pub span-out : {d : Bool} → d ≡ dates_hold t h → d ≡ false → t < E → RecordSpan c h t false E E
-  span-out ed e l = off (sym (holds-out c h t _ ed e)) l
+  pub span-gap : {d : Bool} (x : ℕ) → x ≡ t % c → d ≡ dates_hold t h → d ≡ true → pairs_hold x h ≡ false → holds c h t ≡ false
+  span-gap x ex ed e z = sym (holds-in c h t _ ed e x false ex (sym z))
 
-  module _ (x stop : ℕ) (on : Bool) (ex : x ≡ t % c) (p : PhaseSpan c h x on stop) where
-    pub span-gap : {d : Bool} → d ≡ dates_hold t h → d ≡ true → on ≡ false → t < E → RecordSpan c h t false E E
-    span-gap ed e z l = off (sym (holds-in c h t _ ed e x on ex (p.is x (le_refl x) p.after)) ∙ z) l
-
+  module _ (x stop : ℕ) (ex : x ≡ t % c) (p : PhaseSpan c h x true stop) where
     -- it holds: to where its pair ends, and its dates
-    pub span-in : {d : Bool} (until era : ℕ) → d ≡ dates_hold t h → d ≡ true → on ≡ true → 0 < c → h.end ≤ E → t < until → until ≤ t + (stop - x)
+    pub span-in : {d : Bool} (until era : ℕ) → d ≡ dates_hold t h → d ≡ true → 0 < c → h.end ≤ E → t < until → until ≤ t + (stop - x)
         → era ≡ h.end → RecordSpan c h t true until era
-    span-in until era ed e z pos most l m ee =
+    span-in until era ed e pos most l m ee =
         let w = dates-in (sym ed ∙ e) in
         record {
-          is = sym z ∙ holds-in c h t _ ed e x on ex (p.is x (le_refl x) p.after);
+          is = holds-in c h t _ ed e x true ex (p.is x (le_refl x) p.after);
           lasts = λ o.
               record {
                 each = λ v k a b d.
@@ -179,7 +168,12 @@ module _ (c : ℕ) (h : Hours) (t : ℕ) where
         same : (v : ℕ) → t ≤ v → v < until → pairs_hold (v % c) h ≡ true
         same v a b =
             let on-time : v % c ≡ t % c + (v - t) = phase-on c t v a (omega (arith, p.in-cycle)) in
-            sym (p.is (v % c) (omega arith) (omega arith)) ∙ z
+            sym (p.is (v % c) (omega arith) (omega arith))
+
+  -- whether there is a span is whether it holds
+  pub span-there : (r : Option Spans) → IfNone r (holds c h t ≡ false) → IfSome r (λ (q : Spans). RecordSpan c h t true q.until q.era) → is_some r ≡ holds c h t
+  span-there None z p = sym z
+  span-there (Some q) z p = p.is
 
 -- ---- records
 pub passed-ready : {s : List ℕ} {c from h at k : ℕ} → Passed s from h k at → in_turn (record_judged s c from) h ≡ 0 → k < h → RecordReady s c at
@@ -243,6 +237,11 @@ module _ {s : List ℕ} {c from h t only until era at k : ℕ} (w : Spanned s c 
       where
         shorter : Lasting (holds c (hours_at s at)) c t until' era' → Lasting (holds c (hours_at s at)) c t until₁ era₁
         shorter y = record { each = λ v j a b d. y.each v j a (omega arith) (omega arith) }
+
+    -- it does not hold
+    pub spans-off : {until₁ era₁ : ℕ} → holds c (hours_at s at) t ≡ false → until₁ ≡ until → era₁ ≡ era → Spanned s c from h t only until₁ era₁ at₁ (k + 1)
+    spans-off o eu ee =
+        one_more l (omega arith) (omega arith) (omega (arith, w.span.after)) (omega (arith, w.span.longer)) (λ _ z. clash (holds c (hours_at s at) t) z o) ea
 
     pub spans-past : {until₁ era₁ : ℕ} → has only k ≡ false → until₁ ≡ until → era₁ ≡ era → Spanned s c from h t only until₁ era₁ at₁ (k + 1)
     spans-past o eu ee =

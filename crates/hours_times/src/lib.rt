@@ -1,28 +1,14 @@
 // Which hours records hold at a minute, and how far these go on holding: by their dates and pairs, with no walk over minutes.
 #![tactic(auto)]
 
-ghost use Rattle.std.specs.Prelude.{◌≡◌, ◌%◌, ◌≤◌, ◌<◌};
+ghost use Rattle.std.specs.Prelude.{◌≡◌, ◌%◌, ◌≤◌, ◌<◌, true, false, IfNone, IfSome};
 ghost use Rattle.ground.specs.Believed.Judgement.{in_turn};
 ghost use Rattle.minutes.specs.Believed.Minutes.{E};
+ghost use Rattle.hours.specs.Believed.Hours.{holds};
 ghost use Rattle.hours.specs.Believed.HoursBytes.{pairs_at, hours_at};
 ghost use Rattle.hours.specs.Believed.HoursRefusals.{record_judged};
-ghost use Rattle.hours.specs.Inside.{holding};
+ghost use Rattle.hours.specs.Inside.{holding, pairs_hold};
 ghost use Rattle.hours_times.specs.Spans.{RecordReady, FirstEnding, PhaseSpan, RecordSpan, RecordsSpan};
-
-// Whether the phase is in a pair, and the phase before which that stays so.
-#[derive(Clone, Copy)]
-struct Reach {
-    on: bool,
-    stop: u32,
-}
-
-// Whether a record holds at a minute; where it does, it holds to before `until`, and, by the cycle, to before `era`.
-#[derive(Clone, Copy)]
-pub struct Span {
-    pub on: bool,
-    pub until: u32,
-    pub era: u32,
-}
 
 // How far some records that hold at a minute do so: to before `until`, and, by the cycle, to before `era`.
 #[derive(Clone, Copy)]
@@ -51,56 +37,39 @@ fn first_ending(s: &[u8], cycle: u32, at: usize, n: usize, x: u32) -> usize
     low
 }
 
-// Of the record at `at`, at phase x: the first pair that ends after x decides.
-fn pairs_span(s: &[u8], cycle: u32, at: usize, x: u32) -> Reach
+// Of the record at `at`, at phase x: where it is in a pair, the phase at which that ends. The first pair that ends after x decides.
+fn pair_end(s: &[u8], cycle: u32, at: usize, x: u32) -> Option<u32>
     requires { RecordReady s.now cycle at × (x < cycle) }
-    ensures { PhaseSpan cycle (hours_at s.now at) x result.on result.stop }
+    ensures none { IfNone result (pairs_hold x (hours_at s.now at) ≡ false) }
+    ensures some { IfSome result (PhaseSpan cycle (hours_at s.now at) x true) }
 {
     let n = endian::read16(s, at + 8) as usize;
     let j = first_ending(s, cycle, at, n, x);
     if n <= j {
-        return Reach {
-            on: false,
-            stop: cycle,
-        };
+        return None;
     }
     let offset = endian::read16(s, at + 10 + 4 * j) as u32;
     if x < offset {
-        return Reach {
-            on: false,
-            stop: offset,
-        };
+        return None;
     }
-    let end = offset + endian::read16(s, at + 10 + 4 * j + 2) as u32;
-    Reach {
-        on: true,
-        stop: end,
-    }
+    Some(offset + endian::read16(s, at + 10 + 4 * j + 2) as u32)
 }
 
-// Of the record at `at`, at minute t, whose phase is x. A record that does not hold bounds nothing.
-pub fn record_span(s: &[u8], cycle: u32, at: usize, t: u32, x: u32) -> Span
+// Of the record at `at`, at minute t, whose phase is x: where it holds, how far. A record that does not hold bounds nothing.
+pub fn record_span(s: &[u8], cycle: u32, at: usize, t: u32, x: u32) -> Option<Spans>
     requires { RecordReady s.now cycle at × (0 < cycle) × (cycle ≤ 40320) × (t < E) × (x ≡ t % cycle) }
-    ensures { RecordSpan cycle (hours_at s.now at) t result.on result.until result.era }
+    ensures none { IfNone result (holds cycle (hours_at s.now at) t ≡ false) }
+    ensures some { IfSome result (λ r. RecordSpan cycle (hours_at s.now at) t true r.until r.era) }
 {
-    if hours::dates_hold(s, at, t) {
-        let p = pairs_span(s, cycle, at, x);
-        if p.on {
-            let left = p.stop - x;
-            let until = t + left;
-            let era = endian::read32(s, at + 4);
-            return Span {
-                on: true,
-                until,
-                era,
-            };
-        }
+    if !hours::dates_hold(s, at, t) {
+        return None;
     }
-    Span {
-        on: false,
-        until: minutes::END,
-        era: minutes::END,
-    }
+    let end = pair_end(s, cycle, at, x)?;
+    let left = end - x;
+    Some(Spans {
+        until: t + left,
+        era: endian::read32(s, at + 4),
+    })
 }
 
 // The numbers of the h records from `from` on that hold at minute t, of records that are not refused.
@@ -110,15 +79,12 @@ pub fn records_on(s: &[u8], cycle: u32, from: usize, h: usize, t: u32) -> u64
 {
     let x = minutes::phase(cycle, t);
     let mut set = 0;
-    let mut k = 0;
     let mut at = from;
-    while k < h {
-        let r = record_span(s, cycle, at, t, x);
-        if r.on {
+    for k in 0..h {
+        if record_span(s, cycle, at, t, x).is_some() {
             set = bitset::with(set, k as u32);
         }
         at = hours::next_record(s, at);
-        k += 1;
     }
     set
 }
@@ -131,16 +97,15 @@ pub fn records_span(s: &[u8], cycle: u32, from: usize, h: usize, t: u32, only: u
     let x = minutes::phase(cycle, t);
     let mut until = minutes::END;
     let mut era = minutes::END;
-    let mut k = 0;
     let mut at = from;
-    while k < h {
+    for k in 0..h {
         if bitset::contains(only, k as u32) {
-            let r = record_span(s, cycle, at, t, x);
-            until = minutes::earlier(until, r.until);
-            era = minutes::earlier(era, r.era);
+            if let Some(r) = record_span(s, cycle, at, t, x) {
+                until = until.min(r.until);
+                era = era.min(r.era);
+            }
         }
         at = hours::next_record(s, at);
-        k += 1;
     }
     Spans { until, era }
 }

@@ -15,7 +15,8 @@ fn main(rt: HostRuntime) -> io::Result<()> {
     rt.stdout().write_all(&text[..k])
 }
 
-// Reads until the buffer is full or the input ends: how many bytes it put at its start.
+// Reads until the buffer is full or the input ends: how many bytes it put at its start. (A loop: std's `read_exact` fails where the input ends early, and
+// its `read_to_end` needs a heap.)
 fn read_full<R: Read>(input: &mut R, buffer: &mut [u8]) -> io::Result<usize>
     ensures { IfOk result (λ n. n ≤ length buffer.new) }
 {

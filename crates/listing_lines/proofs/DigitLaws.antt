@@ -1,16 +1,16 @@
 -- Digits: how many a number has in decimal, and storing them from the last to the first.
 --     places-low, places-high, places-most     one digit; one more than the tenth; at most as many as a power of ten bounds
---     digits-length, digit-turn, digits-none   k digits; the last digit stored before the others; none left
+--     digits-length, digit-turn, digits-front  k digits; the last digit stored before the others; all are stored
 -- Assumes nothing.
 use Prim.Native.Nat.{ℕ, zero, suc, ◌+◌, ◌-◌, ◌/◌, ◌%◌, ◌^◌, ◌≤◌, ◌<◌}
 use mathlib.Core.Path.{◌≡◌, refl, sym, ap, ◌∙◌}
 use mathlib.Core.Logic.{⊎_elim}
-use mathlib.Core.List.{List, [], ◌∷◌}
+use mathlib.Core.List.{List, [], ◌∷◌, ◌++◌}
 use native.Mathlib.Omega.{arith}
 use native.Mathlib.Nat.{pow-suc, div-lt_iff_lt-mul}
 use lib.Dec.{ltb}
-use lib.ListN.{length, set, length-append}
-use lib.Seq.{sets, set_comm}
+use lib.ListN.{length, set, take, drop, length-append}
+use lib.Seq.{sets, sets-eq, set_comm, take-append_seam}
 use borrow.Author.Tests.{lt-ltb, le-ltb}
 use Rattle.ground.specs.Believed.Choice.{pick}
 use Rattle.ground.proofs.BoolLaws.{lt-or-le, pick_true, pick-false}
@@ -54,19 +54,30 @@ sets-past l i [] j a h = refl
 sets-past l i (v ∷ vs) j a h =
     sets-past (set l i v) (suc i) vs j a (omega arith) ∙ ap (λ (m : List ℕ). sets m (suc i) vs) (set_comm l i j v a (λ e. omega arith))
 
-module _ (l : List ℕ) (at b : ℕ) where
-  digit-stored : (k n : ℕ) → sets (set l (at + k) (digit (n % b))) at (digits b k (n / b)) ≡ sets l at (digits b (suc k) n)
+module _ (l : List ℕ) (b : ℕ) where
+  digit-stored : (k n : ℕ) → sets (set l k (digit (n % b))) 0 (digits b k (n / b)) ≡ sets l 0 (digits b (suc k) n)
   unfolding digits
   digit-stored k n =
-      sym (sets-past l at (digits b k (n / b)) (at + k) (digit (n % b)) (omega (arith, digits-length b k (n / b))))
-      ∙ ap (λ (j : ℕ). set (sets l at (digits b k (n / b))) (at + j) (digit (n % b))) (sym (digits-length b k (n / b)))
-      ∙ sets-append l at (digits b k (n / b)) (digit (n % b) ∷ [])
+      let e : k ≡ 0 + length (digits b k (n / b)) = omega (arith, digits-length b k (n / b)) in
+      sym (sets-past l 0 (digits b k (n / b)) k (digit (n % b)) (omega (arith, digits-length b k (n / b))))
+      ∙ ap (λ (j : ℕ). set (sets l 0 (digits b k (n / b))) j (digit (n % b))) e
+      ∙ sets-append l 0 (digits b k (n / b)) (digit (n % b) ∷ [])
 
-  pub digit-turn : (k n : ℕ) {x : ℕ} → 0 < k → x ≡ digit (n % b) → sets (set l (at + (k - 1)) x) at (digits b (k - 1) (n / b)) ≡ sets l at (digits b k n)
+  pub digit-turn : (k n : ℕ) {x : ℕ} → 0 < k → x ≡ digit (n % b) → sets (set l (k - 1) x) 0 (digits b (k - 1) (n / b)) ≡ sets l 0 (digits b k n)
   digit-turn k n h e =
-      ap (λ (y : ℕ). sets (set l (at + (k - 1)) y) at (digits b (k - 1) (n / b))) e ∙ digit-stored (k - 1) n
-      ∙ ap (λ (j : ℕ). sets l at (digits b j n)) (omega arith)
+      ap (λ (y : ℕ). sets (set l (k - 1) y) 0 (digits b (k - 1) (n / b))) e ∙ digit-stored (k - 1) n
+      ∙ ap (λ (j : ℕ). sets l 0 (digits b j n)) (omega arith)
 
-  pub digits-none : (k n : ℕ) → k ≡ 0 → l ≡ sets l at (digits b k n)
+  digits-none : (k n : ℕ) → k ≡ 0 → l ≡ sets l 0 (digits b k n)
   unfolding digits
-  digits-none k n e = sym (ap (λ (j : ℕ). sets l at (digits b j n)) e)
+  digits-none k n e = sym (ap (λ (j : ℕ). sets l 0 (digits b j n)) e)
+
+-- what stands in front of a text, when all k digits of n are stored there
+pub digits-front : (text zeros : List ℕ) (b i rest k n : ℕ) → i ≡ 0 → k ≤ length zeros → sets text 0 (digits b i rest) ≡ sets zeros 0 (digits b k n)
+    → take k text ≡ digits b k n
+digits-front text zeros b i rest k n e l h =
+    let ds = digits b k n in
+    let long = digits-length b k n in
+    ap (take k) (digits-none text b i rest e ∙ h ∙ sets-eq ds zeros 0 (omega (arith, long)))
+    ∙ ap (λ (j : ℕ). take j (ds ++ drop (0 + length ds) zeros)) (sym long)
+    ∙ take-append_seam ds (drop (0 + length ds) zeros)

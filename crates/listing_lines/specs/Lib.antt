@@ -1,2 +1,1 @@
 pub mod Believed
-pub mod Written

@@ -1,9 +1,9 @@
 -- The text of a table, line by line, from the bytes that spell it.
 --     role-is, roles-none, roles_more    the line of a derived role; no line yet; one line more
---     row_is, rows_none, rows_more       the same of rows, counted by how many are left
+--     row_is, rows_none, rows_more       the same of rows
 --     table_is                           the table's line, the derived roles and the rows
 -- Assumes nothing.
-use Prim.Native.Nat.{ℕ, suc, ◌+◌, ◌-◌, ◌*◌, ◌≤◌, ◌<◌}
+use Prim.Native.Nat.{ℕ, suc, ◌+◌, ◌*◌}
 use mathlib.Core.Path.{◌≡◌, refl, sym, ap, ap₂, ◌∙◌}
 use mathlib.Core.List.{List, [], ◌∷◌, ◌++◌, append_assoc, append-nil}
 use native.Mathlib.Omega.{arith}
@@ -46,16 +46,16 @@ module _ (t : List ℕ) where
   unfolding row_text
   row_is at p q r v w = λ i. row_line (p i) (q i) (r i) (v i) (w i)
 
-  pub rows_none : (n : ℕ) → [] ≡ joined row_text (list_of (n - n) (row_of t))
+  pub rows_none : [] ≡ joined row_text (list_of 0 (row_of t))
   unfolding joined list_of
-  rows_none n = let h : 0 ≡ n - n = omega arith in ap (λ (k : ℕ). joined row_text (list_of k (row_of t))) h
+  rows_none = refl
 
-  pub rows_more : (n left at : ℕ) → 0 < left → left ≤ n → at ≡ 16 + 17 * derived_of t + 16 * (n - left)
-      → joined row_text (list_of (n - left) (row_of t)) ++ row_text (row_at_byte t at) ≡ joined row_text (list_of (n - (left - 1)) (row_of t))
+  pub rows_more : (k at : ℕ) → at ≡ 16 + 17 * derived_of t + 16 * k
+      → joined row_text (list_of k (row_of t)) ++ row_text (row_at_byte t at) ≡ joined row_text (list_of (k + 1) (row_of t))
   unfolding row_of
-  rows_more n left at h k e =
-      ap (λ (p : ℕ). joined row_text (list_of (n - left) (row_of t)) ++ row_text (row_at_byte t p)) e ∙ sym (joined-list_of row_text (row_of t) (n - left))
-      ∙ ap (λ (m : ℕ). joined row_text (list_of m (row_of t))) (omega arith)
+  rows_more k at e =
+      ap (λ (p : ℕ). joined row_text (list_of k (row_of t)) ++ row_text (row_at_byte t p)) e ∙ sym (joined-list_of row_text (row_of t) k)
+      ∙ ap (λ (m : ℕ). joined row_text (list_of m (row_of t))) (sym (add-one k))
 
   pub table_is : {cycle d n : ℕ} → cycle ≡ cycle_of t → d ≡ derived_of t → n ≡ rows_of t
       → table_line cycle d n ++ roles_text 0 (list_of d (entry_of t)) ++ joined row_text (list_of n (row_of t)) ≡ table_text (table_of t)

@@ -1,23 +1,29 @@
--- What each case of the calls' answers stands for: 01's number or values, and the state.
-use Rattle.std.proofs.Math.Option.{none, some}
-use Rattle.ground.specs.Believed.Outcome.{refused, given}
-use Rattle.machine.specs.Believed.Machine.{Step, closed, done, answered}
-use Rattle.machine.specs.declared.Advanced.{Advanced}
-use Rattle.machine.specs.declared.Advanced.TheVariants as advanced
-use Rattle.machine.specs.declared.Changed.{Changed}
-use Rattle.machine.specs.declared.Changed.TheVariants as changed
-use Rattle.machine.specs.declared.Asked.{Asked}
-use Rattle.machine.specs.declared.Asked.TheVariants as asked
+-- What each call's result stands for: 01's number or values, and the state. A refused call leaves the state that came.
+use Rattle.std.specs.Prelude.{Result, Ok, Err}
+use Rattle.ground.specs.Believed.Outcome.{Outcome, refused, given}
+use Rattle.refusal.specs.Believed.Numbers.{number}
+use Rattle.refusal.specs.declared.Refusal.{Refusal}
+use Rattle.machine.specs.Believed.Machine.{Gift, Step}
+use Rattle.machine.specs.declared.Service.{Service}
 
-abbrev pub advanced_step : Advanced → Step
-advanced_step (advanced.Closed n σ) = record { outcome = given (closed n); after = σ }
-advanced_step (advanced.Refused n σ) = record { outcome = refused n; after = σ }
+-- what is given, as the call's gift, or the number of the refusal
+abbrev pub gives : {A : Type 0} → (A → Gift) → Result A Refusal → Outcome Gift
+gives gift (Ok a) = given (gift a)
+gives gift (Err r) = refused (number r)
 
-abbrev pub changed_step : Changed → Step
-changed_step (changed.Done σ) = record { outcome = given done; after = σ }
-changed_step (changed.Refused n σ) = record { outcome = refused n; after = σ }
+-- of a call that gives the state that it leaves; of one that leaves the state
+abbrev pub stepped : {A : Type 0} → (A → Gift) → Service → Result (A × Service) Refusal → Step
+stepped gift σ (Ok a) = record { outcome = given (gift a.0); after = a.1 }
+stepped gift σ (Err r) = record { outcome = refused (number r); after = σ }
 
-abbrev pub asked_step : Asked → Step
-asked_step (asked.Yes r σ) = record { outcome = given (answered (some r)); after = σ }
-asked_step (asked.No σ) = record { outcome = given (answered none); after = σ }
-asked_step (asked.Refused n σ) = record { outcome = refused n; after = σ }
+abbrev pub remaining : {A : Type 0} → (A → Gift) → Service → Result A Refusal → Step
+remaining gift σ r = record { outcome = gives gift r; after = σ }
+
+-- the two parts of it
+abbrev pub answer_in : {A : Type 0} → Result (A × Service) Refusal → Result A Refusal
+answer_in (Ok a) = Ok a.0
+answer_in (Err r) = Err r
+
+abbrev pub state_after : {A : Type 0} → Service → Result (A × Service) Refusal → Service
+state_after σ (Ok a) = a.1
+state_after σ (Err r) = σ

@@ -1,10 +1,9 @@
 -- The calls as the code takes them apart: from a policy's counts and the set of those who hold a permission, with no bytes.
 use Rattle.std.specs.Prelude.{ℕ}
-use Rattle.std.proofs.Math.Option.{Option}
 use Rattle.ground.specs.Believed.Judgement.{◌or_else◌}
-use Rattle.ground.specs.Believed.Outcome.{Outcome, refused, given}
+use Rattle.ground.specs.Believed.Outcome.{given}
 use Rattle.bitset.specs.Believed.Sets.{has, insert, remove, difference, count}
-use Rattle.machine.specs.Believed.Machine.{Gift, Step, closed, done, answered, state, state_judged, open_judged, close_judged, settled}
+use Rattle.machine.specs.Believed.Machine.{Step, closed, done, state, state_judged, open_judged, close_judged, settled}
 use Rattle.machine.specs.declared.Service.{Service}
 
 unfoldable pub closed_step : ℕ → Service → ℕ → Step
@@ -18,11 +17,3 @@ opened_step users holders σ u = settled (open_judged users (has holders u) σ u
 unfoldable pub moved_step : ℕ → Service → ℕ → Step
 moved_step stays σ m =
     record { outcome = given (closed (count (difference σ.«open» stays))); after = state m stays }
-
--- an ask that is not refused, by what the lent bytes answer
-abbrev pub answered_by : Outcome (Option ℕ) → Outcome Gift
-answered_by (refused n) = refused n
-answered_by (given o) = given (answered o)
-
-unfoldable pub answered_step : Outcome (Option ℕ) → Service → Step
-answered_step o σ = record { outcome = answered_by o; after = σ }

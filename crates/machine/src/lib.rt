@@ -1,15 +1,16 @@
-// The plain machine's state, its four calls' answers, and each call by what a policy says: its counts, and the set of those who hold a permission.
+// The plain machine's state, what each of its four calls is refused for, and each call by what a policy says: its counts, and the set of those who hold a
+// permission. A call is by value: it gives what it answers with the state that it leaves, and where it is refused the state that came is still there.
 #![tactic(auto)]
 
-ghost use Rattle.std.specs.Prelude.{◌≡◌, ◌≤◌};
+ghost use Rattle.std.specs.Prelude.{◌≡◌, ◌≤◌, Ok};
 ghost use Rattle.ground.specs.Believed.Judgement.{◌or_else◌};
 ghost use Rattle.bitset.specs.Believed.Sets.{has};
-ghost use Rattle.policy.specs.Believed.Policy.{answer_given};
-ghost use Rattle.machine.specs.Believed.Machine.{state_judged, advance_judged, open_judged, close_judged, ask_judged};
-ghost use Rattle.machine.specs.Answers.{advanced_step, changed_step, asked_step};
-ghost use Rattle.machine.specs.Core.{moved_step, opened_step, closed_step, answered_step};
+ghost use Rattle.refusal.specs.Believed.Ends.{judgement_of};
+ghost use Rattle.machine.specs.Believed.Machine.{closed, done, state_judged, advance_judged, open_judged, close_judged, ask_judged};
+ghost use Rattle.machine.specs.Answers.{stepped, answer_in, state_after};
+ghost use Rattle.machine.specs.Core.{moved_step, opened_step, closed_step};
 
-use policy::Answer;
+use refusal::Refusal;
 
 // Now, a minute, and the set of users whose sessions are open.
 #[repr(C)]
@@ -19,122 +20,97 @@ pub struct Service {
     pub open: u64,
 }
 
-// An advance gives the count of sessions that it closed, or a refusal's number; with the state that it leaves.
-#[derive(Clone, Copy)]
-pub enum Advanced {
-    Closed(u32, Service),
-    Refused(u8, Service),
-}
-
-// To open or to close a session gives nothing, or a refusal's number; with the state that it leaves.
-#[derive(Clone, Copy)]
-pub enum Changed {
-    Done(Service),
-    Refused(u8, Service),
-}
-
-// To ask gives yes with a role, no, or a refusal's number; with the state that it leaves.
-#[derive(Clone, Copy)]
-pub enum Asked {
-    Yes(u8, Service),
-    No(Service),
-    Refused(u8, Service),
-}
-
-// 40 where the state is not one of a policy of so many users, else 0.
-pub fn judge_state(users: u32, service: Service) -> u8
+// Whether the state is one of a policy of so many users.
+pub fn judge_state(users: u32, service: Service) -> Result<(), Refusal>
     requires { users ≤ 64 }
-    ensures { result ≡ state_judged users service }
+    ensures { judgement_of result ≡ state_judged users service }
 {
     if minutes::END <= service.now {
-        return 40;
+        return Err(Refusal::StateUnfit);
     }
-    if bitset::all_below(service.open, users) {
-        0
-    } else {
-        40
+    if !bitset::all_below(service.open, users) {
+        return Err(Refusal::StateUnfit);
     }
+    Ok(())
 }
 
-// The first refusal of an advance, after those of the bytes, else 0.
-pub fn judge_advance(users: u32, service: Service, m: u32) -> u8
+// The first refusal of an advance, after those of the bytes.
+pub fn judge_advance(users: u32, service: Service, m: u32) -> Result<(), Refusal>
     requires { users ≤ 64 }
-    ensures { result ≡ state_judged users service or_else advance_judged service m }
+    ensures { judgement_of result ≡ state_judged users service or_else advance_judged service m }
 {
-    let bad = judge_state(users, service);
-    if bad != 0 {
-        return bad;
-    }
+    judge_state(users, service)?;
     if minutes::END <= m {
-        return 33;
+        return Err(Refusal::NoSuchMinute);
     }
     if m < service.now {
-        return 41;
+        return Err(Refusal::BeforeNow);
     }
-    0
+    Ok(())
 }
 
-// The first refusal of an open's own, else 0. The holders are those who hold a permission now.
-fn judge_open(users: u32, holders: u64, service: Service, u: u32) -> u8
+// The first refusal of an open's own. The holders are those who hold a permission now.
+fn judge_open(users: u32, holders: u64, service: Service, u: u32) -> Result<(), Refusal>
     requires { users ≤ 64 }
-    ensures { result ≡ open_judged users (has holders u) service u }
+    ensures { judgement_of result ≡ open_judged users (has holders u) service u }
 {
     if users <= u {
-        return 34;
+        return Err(Refusal::NoSuchUser);
     }
     if bitset::contains(service.open, u) {
-        return 42;
+        return Err(Refusal::AlreadyOpen);
     }
-    if bitset::contains(holders, u) { 0 } else { 43 }
+    if !bitset::contains(holders, u) {
+        return Err(Refusal::NoPermissionNow);
+    }
+    Ok(())
 }
 
-// The first refusal of a close, after those of the bytes, else 0.
-fn judge_close(users: u32, service: Service, u: u32) -> u8
+// The first refusal of a close, after those of the bytes.
+fn judge_close(users: u32, service: Service, u: u32) -> Result<(), Refusal>
     requires { users ≤ 64 }
-    ensures { result ≡ state_judged users service or_else close_judged users service u }
+    ensures { judgement_of result ≡ state_judged users service or_else close_judged users service u }
 {
-    let bad = judge_state(users, service);
-    if bad != 0 {
-        return bad;
-    }
+    judge_state(users, service)?;
     if users <= u {
-        return 34;
+        return Err(Refusal::NoSuchUser);
     }
-    if bitset::contains(service.open, u) {
-        0
-    } else {
-        44
+    if !bitset::contains(service.open, u) {
+        return Err(Refusal::NotOpen);
     }
+    Ok(())
 }
 
-// The first refusal of an ask, after those of the bytes, else 0.
-pub fn judge_ask(users: u32, permissions: u32, service: Service, u: u32, p: u32) -> u8
+// The first refusal of an ask, after those of the bytes.
+pub fn judge_ask(
+    users: u32,
+    permissions: u32,
+    service: Service,
+    u: u32,
+    p: u32,
+) -> Result<(), Refusal>
     requires { users ≤ 64 }
-    ensures { result ≡ state_judged users service or_else ask_judged users permissions service u p }
+    ensures { judgement_of result ≡ state_judged users service or_else ask_judged users permissions service u p }
 {
-    let bad = judge_state(users, service);
-    if bad != 0 {
-        return bad;
-    }
+    judge_state(users, service)?;
     if users <= u {
-        return 34;
+        return Err(Refusal::NoSuchUser);
     }
     if permissions <= p {
-        return 35;
+        return Err(Refusal::NoSuchPermission);
     }
-    if bitset::contains(service.open, u) {
-        0
-    } else {
-        44
+    if !bitset::contains(service.open, u) {
+        return Err(Refusal::NotOpen);
     }
+    Ok(())
 }
 
-// An advance that is not refused, and the sessions that stay.
-pub fn moved(stays: u64, service: Service, m: u32) -> Advanced
-    ensures { advanced_step result ≡ moved_step stays service m }
+// An advance that is not refused, and the sessions that stay: how many it closed.
+pub fn moved(stays: u64, service: Service, m: u32) -> (u32, Service)
+    ensures { stepped closed service (Ok result) ≡ moved_step stays service m }
 {
     let closed = bitset::count_lost(service.open, stays);
-    Advanced::Closed(
+    (
         closed,
         Service {
             now: m,
@@ -144,42 +120,41 @@ pub fn moved(stays: u64, service: Service, m: u32) -> Advanced
 }
 
 // An open, where the state is not refused.
-pub fn opened(users: u32, holders: u64, service: Service, u: u32) -> Changed
+pub fn opened(users: u32, holders: u64, service: Service, u: u32) -> Result<((), Service), Refusal>
     requires { users ≤ 64 }
-    ensures { changed_step result ≡ opened_step users holders service u }
+    ensures { stepped (λ _. done) service result ≡ opened_step users holders service u }
 {
-    let bad = judge_open(users, holders, service, u);
-    if bad != 0 {
-        return Changed::Refused(bad, service);
-    }
-    Changed::Done(Service {
-        now: service.now,
-        open: bitset::with(service.open, u),
-    })
+    judge_open(users, holders, service, u)?;
+    Ok((
+        (),
+        Service {
+            open: bitset::with(service.open, u),
+            ..service
+        },
+    ))
 }
 
 // A close.
-pub fn closed(users: u32, service: Service, u: u32) -> Changed
+pub fn closed(users: u32, service: Service, u: u32) -> Result<((), Service), Refusal>
     requires { users ≤ 64 }
-    ensures { changed_step result ≡ closed_step users service u }
+    ensures { stepped (λ _. done) service result ≡ closed_step users service u }
 {
-    let bad = judge_close(users, service, u);
-    if bad != 0 {
-        return Changed::Refused(bad, service);
-    }
-    Changed::Done(Service {
-        now: service.now,
-        open: bitset::without(service.open, u),
-    })
+    judge_close(users, service, u)?;
+    Ok((
+        (),
+        Service {
+            open: bitset::without(service.open, u),
+            ..service
+        },
+    ))
 }
 
-// An ask that is not refused, by what the lent bytes answer.
-pub fn answered(answer: Answer, service: Service) -> Asked
-    ensures { asked_step result ≡ answered_step (answer_given answer) service }
+// Leaves in a lent record the state that a call leaves; where it is refused the record stays. What the call answers.
+pub fn leave<T: Copy>(r: Result<(T, Service), Refusal>, service: &mut Service) -> Result<T, Refusal>
+    ensures answer { result ≡ answer_in r }
+    ensures state { service.new ≡ state_after service.old r }
 {
-    match answer {
-        Answer::Yes(r) => Asked::Yes(r, service),
-        Answer::No => Asked::No(service),
-        Answer::Refused(n) => Asked::Refused(n, service),
-    }
+    let (answer, after) = r?;
+    *service = after;
+    Ok(answer)
 }

@@ -12,14 +12,14 @@ pub const END: u32 = 210379680;
 pub fn earlier(a: u32, b: u32) -> u32
     ensures { result ≡ min a b }
 {
-    if a < b { a } else { b }
+    a.min(b)
 }
 
 // begin ≤ t < end
 pub fn during(begin: u32, end: u32, t: u32) -> bool
     ensures { result ≡ within begin end t }
 {
-    if t < begin { false } else { t < end }
+    (begin..end).contains(&t)
 }
 
 // Where minute t stands in a cycle.
@@ -34,11 +34,7 @@ pub fn phase(cycle: u32, t: u32) -> u32
 pub fn in_span(offset: u32, length: u32, x: u32) -> bool
     ensures { result ≡ within offset (offset + length) x }
 {
-    if x < offset {
-        false
-    } else {
-        x - offset < length
-    }
+    offset <= x && x - offset < length
 }
 
 // From a minute on, the first whose phase lies from `offset` to before `end`.

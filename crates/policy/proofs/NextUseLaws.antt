@@ -7,7 +7,7 @@ use Prim.Native.Nat.{ℕ, zero, suc, ◌≤◌, ◌<◌}
 use mathlib.Core.Path.{◌≡◌, refl, sym, ap, ◌∙◌}
 use mathlib.Core.Logic.{◌↔◌}
 use mathlib.Core.Bool.{true, false, ◌&&◌}
-use mathlib.Core.Option.{Option, none, some}
+use Rattle.std.proofs.Common.{Option, None, Some}
 use native.Mathlib.Omega.{arith}
 use lib.Dec.{leb}
 use Rattle.ground.specs.Believed.Outcome.{refused, given}
@@ -20,13 +20,13 @@ use Rattle.policy.proofs.QuestionOutcome.{bytes-stop, numbers-stop, answered, nu
 
 module _ (π : Policy) (u p m : ℕ) where
   -- a minute that is given is not before m, the answer is yes there, and no earlier minute will do
-  pub next-at : (t : ℕ) → (next_use π u p m ≡ some t)
+  pub next-at : (t : ℕ) → (next_use π u p m ≡ Some t)
       ↔ ((m ≤ t) × (t < E) × (is_yes (π.answer u p t) ≡ true) × ((v : ℕ) → m ≤ v → v < t → is_yes (π.answer u p v) ≡ false))
   unfolding next_use
   next-at t = from_at m E (λ v. is_yes (π.answer u p v)) t
 
   -- none is given exactly when there is no such minute
-  pub next-none : (next_use π u p m ≡ none) ↔ ((v : ℕ) → m ≤ v → v < E → is_yes (π.answer u p v) ≡ false)
+  pub next-none : (next_use π u p m ≡ None) ↔ ((v : ℕ) → m ≤ v → v < E → is_yes (π.answer u p v) ≡ false)
   unfolding next_use
   next-none = from-none m E (λ v. is_yes (π.answer u p v))
 

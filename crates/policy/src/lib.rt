@@ -1,16 +1,11 @@
-// The answers that a rota and a table share, and what both tell a sweep over minutes.
+// Which numbers a question may have, and what a rota and a table both tell a sweep over minutes.
 #![tactic(auto)]
 
 ghost use Rattle.std.specs.Prelude.{◌≡◌};
+ghost use Rattle.refusal.specs.Believed.Ends.{judgement_of};
 ghost use Rattle.policy.specs.Believed.Policy.{arguments_judged};
 
-// To one question: yes with the lowest role, no, or the number of a refusal.
-#[derive(Clone, Copy)]
-pub enum Answer {
-    Yes(u8),
-    No,
-    Refused(u8),
-}
+use refusal::Refusal;
 
 // Who holds a permission at a minute; to before `until` all of them do, and, by the cycle, to before `era`.
 #[derive(Clone, Copy)]
@@ -20,18 +15,18 @@ pub struct Held {
     pub era: u32,
 }
 
-// The first refusal of a question's numbers, else 0.
-pub fn judge_arguments(users: u32, permissions: u32, u: u32, p: u32, t: u32) -> u8
-    ensures { result ≡ arguments_judged users permissions u p t }
+// The first refusal of a question's numbers.
+pub fn judge_arguments(users: u32, permissions: u32, u: u32, p: u32, t: u32) -> Result<(), Refusal>
+    ensures { judgement_of result ≡ arguments_judged users permissions u p t }
 {
     if minutes::END <= t {
-        return 33;
+        return Err(Refusal::NoSuchMinute);
     }
     if users <= u {
-        return 34;
+        return Err(Refusal::NoSuchUser);
     }
     if permissions <= p {
-        return 35;
+        return Err(Refusal::NoSuchPermission);
     }
-    0
+    Ok(())
 }

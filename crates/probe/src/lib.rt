@@ -2,10 +2,10 @@
 // plain structs.
 #![tactic(auto)]
 
-use bitset::contains;
-use hours::HoursAnswer;
-use machine::{Advanced, Asked, Changed, Service};
-use source::{Kind, Lending};
+use host_answers::Told;
+use machine::Service;
+use refusal::Refusal;
+use source::Kind;
 
 // A number that was found, or nothing.
 #[repr(C)]
@@ -15,83 +15,47 @@ pub struct Found {
     pub value: u64,
 }
 
+impl From<Option<u64>> for Found {
+    fn from(number: Option<u64>) -> Found {
+        match number {
+            Some(value) => Found { found: 1, value },
+            None => Found { found: 0, value: 0 },
+        }
+    }
+}
+
 // The number of 2, 4 or 8 bytes at `at`.
+fn get(s: &[u8], at: usize, width: u32) -> Option<u64> {
+    let left = s.len().checked_sub(at)?;
+    match width {
+        2 if 2 <= left => Some(endian::read16(s, at).into()),
+        4 if 4 <= left => Some(endian::read32(s, at).into()),
+        8 if 8 <= left => Some(endian::read64(s, at)),
+        _ => None,
+    }
+}
+
 #[unsafe(no_mangle)]
 pub extern "C" fn probe_get(s: &[u8], at: usize, width: u32) -> Found {
-    let nothing = Found { found: 0, value: 0 };
-    if s.len() < at {
-        return nothing;
-    }
-    let left = s.len() - at;
-    if width == 2 {
-        if left < 2 {
-            return nothing;
-        }
-        return Found {
-            found: 1,
-            value: endian::read16(s, at) as u64,
-        };
-    }
-    if width == 4 {
-        if left < 4 {
-            return nothing;
-        }
-        return Found {
-            found: 1,
-            value: endian::read32(s, at) as u64,
-        };
-    }
-    if width == 8 {
-        if left < 8 {
-            return nothing;
-        }
-        return Found {
-            found: 1,
-            value: endian::read64(s, at),
-        };
-    }
-    nothing
+    get(s, at, width).into()
 }
 
-// Writes a number of 2, 4 or 8 bytes at `at`: 1 where it is written, 0 where it does not fit.
+// Writes a number of 2, 4 or 8 bytes at `at`, where it fits.
+fn put(d: &mut [u8], at: usize, width: u32, value: u64) -> Option<()> {
+    let left = d.len().checked_sub(at)?;
+    match width {
+        2 if 2 <= left => endian::write16(d, at, u16::try_from(value).ok()?),
+        4 if 4 <= left => endian::write32(d, at, u32::try_from(value).ok()?),
+        8 if 8 <= left => endian::write64(d, at, value),
+        _ => return None,
+    }
+    Some(())
+}
+
+// 1 where it is written, 0 where it does not fit.
 #[unsafe(no_mangle)]
 pub extern "C" fn probe_put(d: &mut [u8], at: usize, width: u32, value: u64) -> u32 {
-    if d.len() < at {
-        return 0;
-    }
-    let left = d.len() - at;
-    if width == 2 {
-        if left < 2 {
-            return 0;
-        }
-        if 65535 < value {
-            return 0;
-        }
-        endian::write16(d, at, value as u16);
-        return 1;
-    }
-    if width == 4 {
-        if left < 4 {
-            return 0;
-        }
-        if 4294967295 < value {
-            return 0;
-        }
-        endian::write32(d, at, value as u32);
-        return 1;
-    }
-    if width == 8 {
-        if left < 8 {
-            return 0;
-        }
-        endian::write64(d, at, value);
-        return 1;
-    }
-    0
-}
-
-fn flag(b: bool) -> u32 {
-    if b { 1 } else { 0 }
+    put(d, at, width, value).is_some().into()
 }
 
 #[unsafe(no_mangle)]
@@ -99,7 +63,7 @@ pub extern "C" fn probe_set_has(set: u64, i: u32) -> u32 {
     if 64 <= i {
         return 0;
     }
-    flag(contains(set, i))
+    bitset::contains(set, i).into()
 }
 
 #[unsafe(no_mangle)]
@@ -130,7 +94,7 @@ pub extern "C" fn probe_set_difference(a: u64, b: u64) -> u64 {
 
 #[unsafe(no_mangle)]
 pub extern "C" fn probe_set_is_empty(a: u64) -> u32 {
-    flag(bitset::is_empty(a))
+    bitset::is_empty(a).into()
 }
 
 #[unsafe(no_mangle)]
@@ -153,12 +117,9 @@ pub struct HoursJudged {
 #[unsafe(no_mangle)]
 pub extern "C" fn probe_hours_judge(s: &[u8], at: usize, cycle: u32, total: u32) -> HoursJudged {
     match hours::judge(s, cycle, at, total) {
-        HoursAnswer::Accepted(n) => HoursJudged {
-            refusal: 0,
-            pairs: n,
-        },
-        HoursAnswer::Refused(n) => HoursJudged {
-            refusal: n as u32,
+        Ok(pairs) => HoursJudged { refusal: 0, pairs },
+        Err(refusal) => HoursJudged {
+            refusal: refusal.into(),
             pairs: 0,
         },
     }
@@ -175,13 +136,13 @@ pub struct Held {
 #[unsafe(no_mangle)]
 pub extern "C" fn probe_hours_hold(s: &[u8], cycle: u32, t: u32) -> Held {
     match hours::judge(s, cycle, 0, 0) {
-        HoursAnswer::Refused(n) => Held {
-            refusal: n as u32,
-            holds: 0,
-        },
-        HoursAnswer::Accepted(_) => Held {
+        Ok(_) => Held {
             refusal: 0,
-            holds: flag(hours::record_holds(s, cycle, 0, t)),
+            holds: hours::record_holds(s, cycle, 0, t).into(),
+        },
+        Err(refusal) => Held {
+            refusal: refusal.into(),
+            holds: 0,
         },
     }
 }
@@ -194,24 +155,21 @@ pub struct HolderSet {
 }
 
 // Who holds any permission at minute t of lent bytes: their refusal, 33, or the set.
+fn holders_at(kind: Kind, s: &[u8], t: u32) -> Result<u64, Refusal> {
+    let source = source::lend(kind, s)?;
+    if minutes::END <= t {
+        return Err(Refusal::NoSuchMinute);
+    }
+    Ok(source.holders_at(t))
+}
+
 fn holders(kind: Kind, s: &[u8], t: u32) -> HolderSet {
-    match source::lend(kind, s) {
-        Lending::Refused(n) => HolderSet {
-            refusal: n as u32,
+    match holders_at(kind, s, t) {
+        Ok(users) => HolderSet { refusal: 0, users },
+        Err(refusal) => HolderSet {
+            refusal: refusal.into(),
             users: 0,
         },
-        Lending::Lent(source) => {
-            if minutes::END <= t {
-                return HolderSet {
-                    refusal: 33,
-                    users: 0,
-                };
-            }
-            HolderSet {
-                refusal: 0,
-                users: source::holders_at(s, source, t),
-            }
-        }
     }
 }
 
@@ -236,74 +194,75 @@ pub struct Stepped {
     pub open: u64,
 }
 
-fn step_out(refusal: u32, yes: u32, value: u32, after: Service) -> Stepped {
+fn step_out(told: Told, after: Service) -> Stepped {
     Stepped {
-        refusal,
-        yes,
-        value,
+        refusal: told.refusal,
+        yes: told.yes,
+        value: told.value,
         now: after.now,
         open: after.open,
     }
 }
 
-fn advance_out(a: Advanced) -> Stepped {
-    match a {
-        Advanced::Closed(n, after) => step_out(0, 0, n, after),
-        Advanced::Refused(n, after) => step_out(n as u32, 0, 0, after),
-    }
+// The four calls, on bytes of either kind.
+fn advance(kind: Kind, s: &[u8], before: Service, m: u32) -> Stepped {
+    let mut service = before;
+    let told = machine::leave(service::advance(kind, s, before, m), &mut service).into();
+    step_out(told, service)
 }
 
-fn change_out(a: Changed) -> Stepped {
-    match a {
-        Changed::Done(after) => step_out(0, 0, 0, after),
-        Changed::Refused(n, after) => step_out(n as u32, 0, 0, after),
-    }
+fn open_session(kind: Kind, s: &[u8], before: Service, u: u32) -> Stepped {
+    let mut service = before;
+    let told = machine::leave(service::open(kind, s, before, u), &mut service).into();
+    step_out(told, service)
 }
 
-fn ask_out(a: Asked) -> Stepped {
-    match a {
-        Asked::Yes(r, after) => step_out(0, 1, r as u32, after),
-        Asked::No(after) => step_out(0, 0, 0, after),
-        Asked::Refused(n, after) => step_out(n as u32, 0, 0, after),
-    }
+fn close_session(kind: Kind, s: &[u8], before: Service, u: u32) -> Stepped {
+    let mut service = before;
+    let told = machine::leave(service::close(kind, s, before, u), &mut service).into();
+    step_out(told, service)
+}
+
+fn ask(kind: Kind, s: &[u8], service: Service, u: u32, p: u32) -> Stepped {
+    step_out(service::ask(kind, s, service, u, p).into(), service)
 }
 
 #[unsafe(no_mangle)]
 pub extern "C" fn probe_rota_advance(s: &[u8], now: u32, open: u64, m: u32) -> Stepped {
-    advance_out(service::advance(Kind::Rota, s, Service { now, open }, m))
+    advance(Kind::Rota, s, Service { now, open }, m)
 }
 
 #[unsafe(no_mangle)]
 pub extern "C" fn probe_rota_open(s: &[u8], now: u32, open: u64, u: u32) -> Stepped {
-    change_out(service::open(Kind::Rota, s, Service { now, open }, u))
+    open_session(Kind::Rota, s, Service { now, open }, u)
 }
 
 #[unsafe(no_mangle)]
 pub extern "C" fn probe_rota_close(s: &[u8], now: u32, open: u64, u: u32) -> Stepped {
-    change_out(service::close(Kind::Rota, s, Service { now, open }, u))
+    close_session(Kind::Rota, s, Service { now, open }, u)
 }
 
 #[unsafe(no_mangle)]
 pub extern "C" fn probe_rota_ask(s: &[u8], now: u32, open: u64, u: u32, p: u32) -> Stepped {
-    ask_out(service::ask(Kind::Rota, s, Service { now, open }, u, p))
+    ask(Kind::Rota, s, Service { now, open }, u, p)
 }
 
 #[unsafe(no_mangle)]
 pub extern "C" fn probe_table_advance(s: &[u8], now: u32, open: u64, m: u32) -> Stepped {
-    advance_out(service::advance(Kind::Table, s, Service { now, open }, m))
+    advance(Kind::Table, s, Service { now, open }, m)
 }
 
 #[unsafe(no_mangle)]
 pub extern "C" fn probe_table_open(s: &[u8], now: u32, open: u64, u: u32) -> Stepped {
-    change_out(service::open(Kind::Table, s, Service { now, open }, u))
+    open_session(Kind::Table, s, Service { now, open }, u)
 }
 
 #[unsafe(no_mangle)]
 pub extern "C" fn probe_table_close(s: &[u8], now: u32, open: u64, u: u32) -> Stepped {
-    change_out(service::close(Kind::Table, s, Service { now, open }, u))
+    close_session(Kind::Table, s, Service { now, open }, u)
 }
 
 #[unsafe(no_mangle)]
 pub extern "C" fn probe_table_ask(s: &[u8], now: u32, open: u64, u: u32, p: u32) -> Stepped {
-    ask_out(service::ask(Kind::Table, s, Service { now, open }, u, p))
+    ask(Kind::Table, s, Service { now, open }, u, p)
 }

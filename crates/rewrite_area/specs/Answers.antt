@@ -1,9 +1,15 @@
 -- What rewriting answers.
-use Rattle.ground.specs.Believed.Outcome.{Outcome, refused, given}
+use Rattle.std.specs.Prelude.{Result, Ok, Err}
+use Rattle.ground.specs.Believed.Outcome.{Outcome}
+use Rattle.refusal.specs.Believed.Ends.{outcome_of}
+use Rattle.refusal.specs.declared.Refusal.{Refusal}
 use Rattle.rewrite_rules.specs.Believed.Rewriting.{Written}
 use Rattle.rewrite_area.specs.declared.Rewritten.{Rewritten}
-use Rattle.rewrite_area.specs.declared.Rewritten.TheVariants.{Wrote, Refused}
 
-abbrev pub written_given : Rewritten → Outcome Written
-written_given (Wrote derived rows length) = given (record { derived = derived; rows = rows; length = length })
-written_given (Refused n) = refused n
+-- as the rules tell it
+abbrev pub told : Result Rewritten Refusal → Result Written Refusal
+told (Ok w) = Ok (record { derived = w.derived; rows = w.rows; length = w.length })
+told (Err r) = Err r
+
+abbrev pub written_given : Result Rewritten Refusal → Outcome Written
+written_given r = outcome_of (told r)

@@ -1,5 +1,5 @@
 -- What the steps of the rewriting promise one another: a table put into an area.
-use Rattle.std.specs.Prelude.{ℕ, ◌+◌, ◌*◌, ◌≤◌, ◌<◌, List, ltb, length}
+use Rattle.std.specs.Prelude.{ℕ, ◌+◌, ◌*◌, ◌≤◌, ◌<◌, ltb}
 use Rattle.ground.specs.Believed.Judgement.{refuse}
 use Rattle.ground.specs.Believed.Outcome.{Outcome, outcome}
 use Rattle.table.specs.Believed.Table.{Table}
@@ -15,16 +15,15 @@ placed_outcome τ room = outcome (refuse 20 (ltb room (size_of τ))) (written_of
 abbrev pub counts_of : Count → Written
 counts_of k = record { derived = k.entries; rows = k.rows; length = length_with k.entries k.rows }
 
--- lent scratch with a place for each of n fields and of nc cells, and for `most` trees
-pub record Scratch (n nc most : ℕ) (held row kinds lens masks pairs marks links : List ℕ) : Type 0 where
-  pub few : n ≤ 33345
-  pub for-held : nc ≤ length held
-  pub for-row : nc ≤ length row
-  pub for-kinds : n ≤ length kinds
-  pub for-lens : n ≤ length lens
-  pub for-masks : n ≤ length masks
-  pub for-pairs : 2 * n ≤ length pairs
-  pub for-marks : n < length marks
-  pub for-links : most + 2 * n ≤ length links
-  pub some : 0 < most
-  pub trees : most ≤ 65536
+-- scratch of such sizes has a place for each of n fields and of nc cells, and for the links of an index with so many trees; and each array fits the
+-- memory that there can be, as the language asks of arrays whose lengths are parameters
+pub record Sizes (n nc cells fields pairs marks trees links : ℕ) : Type 0 where
+  pub few-fields : n ≤ 33345
+  pub for-cells : nc ≤ cells
+  pub for-fields : n ≤ fields
+  pub for-pairs : 2 * n ≤ pairs
+  pub for-marks : n < marks
+  pub for-links : trees + 2 * n ≤ links
+  pub some : 0 < trees
+  pub most : trees ≤ 65536
+  pub fit : (cells < 1152921504606846976) × (fields < 1152921504606846976) × (pairs < 1152921504606846976) × (marks < 1152921504606846976) × (links < 1152921504606846976)

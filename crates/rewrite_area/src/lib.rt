@@ -1,46 +1,41 @@
-// The table in the area, by way of lent scratch: written where it fits, else nothing is.
+// The table in the area, by way of scratch: written where it fits, else nothing is.
 #![tactic(auto)]
 
 ghost use Rattle.std.specs.Prelude.{◌≡◌, ◌*◌, ◌≤◌, ◌<◌, ltb, length};
 ghost use Rattle.ground.specs.Believed.Choice.{pick};
 ghost use Rattle.ground.specs.Believed.Outcome.{refused, given};
-ghost use Rattle.rota.specs.Inside.{Located};
-ghost use Rattle.rota.specs.Believed.RotaBytes.{roles_of, rota_of};
-ghost use Rattle.rewrite_rules.specs.Roles.{rewrite_roles};
-ghost use Rattle.rewrite_grid.specs.Grid.{Parted};
-ghost use Rattle.rewrite_count.specs.Parts.{length_with};
+ghost use Rattle.rewrite_count.specs.Parts.{length_with, table_of};
 ghost use Rattle.rewrite_place.specs.Parts.{placed_area};
-ghost use Rattle.rewrite_area.specs.Parts.{Scratch, counts_of, placed_outcome};
+ghost use Rattle.rewrite_area.specs.Parts.{Sizes, counts_of, placed_outcome};
 ghost use Rattle.rewrite_area.specs.Answers.{written_given};
 
+use refusal::Refusal;
 use rewrite_count::Count;
-use rota::Layout;
+use rewrite_count::fields::{Fields, Roles};
+use rewrite_count::scratch::Scratch;
 
-// The numbers of derived roles and of rows, and the length, of a table that was written; or a refusal.
+// The numbers of derived roles and of rows, and the length, of a table.
 #[derive(Clone, Copy)]
-pub enum Rewritten {
-    Wrote {
-        derived: u32,
-        rows: u32,
-        length: usize,
-    },
-    Refused(u8),
+pub struct Rewritten {
+    pub derived: u32,
+    pub rows: u32,
+    pub length: usize,
 }
 
 // What is told of a table with such counts: 20 where it is longer than the room.
-fn answer(k: Count, room: usize) -> Rewritten
+fn answer(k: Count, room: usize) -> Result<Rewritten, Refusal>
     requires { (k.entries ≤ 1067040) × (k.rows ≤ 1067040) }
     ensures { written_given result ≡ pick (ltb room (length_with k.entries k.rows)) (refused 20) (given (counts_of k)) }
 {
-    let size = rewrite_place::length_of(k);
-    if room < size {
-        return Rewritten::Refused(20);
+    let length = rewrite_place::length_of(k);
+    if room < length {
+        return Err(Refusal::AreaTooSmall);
     }
-    Rewritten::Wrote {
+    Ok(Rewritten {
         derived: k.entries as u32,
         rows: k.rows as u32,
-        length: size,
-    }
+        length,
+    })
 }
 
 // The number of trees of an index for n keys: twice as many, so that few keys share one, but one at least and `most` at most.
@@ -57,44 +52,63 @@ fn trees(n: usize, most: usize) -> usize
     most
 }
 
-// Rewrites the roles from `first` on, up to `end`, of a rota that is read and divided, in lent scratch with a place for each field. The table is counted to
-// `room`, which decides 20, and written where it fits the area.
-pub fn rewrite_with(
-    s: &[u8],
-    l: Layout,
-    first: u8,
-    end: u8,
-    out: &mut [u8],
-    room: usize,
-    eras: &[u32],
-    ne: usize,
-    cells: &[u32],
-    nc: usize,
-    held: &mut [u64],
-    row: &mut [u64],
-    kinds: &mut [u16],
-    lens: &mut [u8],
-    masks: &mut [u32],
-    pairs: &mut [u64],
-    marks: &mut [u16],
-    links: &mut [u16],
-    most: usize,
-) -> Rewritten
-    requires located { Located s.now l × (first ≤ end) × (end ≤ roles_of s.now) × Parted s.now eras.now ne cells.now nc
-        × (length out.old ≤ room) }
-    requires scratch { Scratch (ne * nc) nc most held.old row.old kinds.old lens.old masks.old pairs.old marks.old links.old }
-    ensures { (written_given result ≡ placed_outcome (rewrite_roles (rota_of s.now) first end) room)
-        × (out.new ≡ placed_area (rewrite_roles (rota_of s.now) first end) out.old) }
+// Rewrites the roles of a rota that is read and divided, in scratch of such sizes, with a place for each field. The table is counted to `room`, which
+// decides 20, and written where it fits the area. Inlined where a size is chosen, which decides whose frame the scratch is in.
+#[inline(always)]
+pub fn rewrite_with<
+    const CELLS: usize,
+    const FIELDS: usize,
+    const PAIRS: usize,
+    const MARKS: usize,
+    const TREES: usize,
+    const LINKS: usize,
+>(roles: &Roles, out: &mut [u8], room: usize) -> Result<Rewritten, Refusal>
+    requires area { length out.old ≤ room }
+    requires sizes { Sizes (roles.now.division.now.era_count * roles.now.division.now.cell_count) roles.now.division.now.cell_count CELLS FIELDS PAIRS MARKS TREES LINKS }
+    ensures { (written_given result ≡ placed_outcome (table_of roles.now) room) × (out.new ≡ placed_area (table_of roles.now) out.old) }
 {
+    let mut held = [0u64; CELLS];
+    let mut row = [0u64; CELLS];
+    let mut kinds = [0u16; FIELDS];
+    let mut lens = [0u8; FIELDS];
+    let mut masks = [0u32; FIELDS];
+    let mut pairs = [0u64; PAIRS];
+    let mut marks = [0u16; MARKS];
+    let mut links = [0u16; LINKS];
     let mut ends = [0usize; 66];
-    let all = trees(ne * nc, most);
-    let n = rewrite_masks::number(
-        s, l, eras, ne, cells, nc, held, row, kinds, lens, &mut ends, masks, links, all,
+    let division = roles.division;
+    let all = trees(division.era_count * division.cell_count, TREES);
+    let mask_count = rewrite_masks::number(
+        roles.bytes,
+        roles.layout,
+        &division.eras,
+        division.era_count,
+        &division.cells,
+        division.cell_count,
+        &mut held,
+        &mut row,
+        &mut kinds,
+        &mut lens,
+        &mut ends,
+        &mut masks,
+        &mut links,
+        all,
     );
-    let w = trees(n, most);
-    let k = rewrite_place::place_table(
-        s, l, first, end, out, room, eras, ne, cells, nc, kinds, lens, &ends, masks, n, pairs,
-        marks, links, w,
-    );
+    let fields = Fields {
+        roles,
+        kinds: &kinds,
+        lens: &lens,
+        ends: &ends,
+        masks: &masks,
+        mask_count,
+    };
+    let mut scratch = Scratch {
+        pairs: &mut pairs,
+        marks: &mut marks,
+        links: &mut links,
+        trees: trees(mask_count, TREES),
+        kept: None,
+    };
+    let k = rewrite_place::place_table(&fields, out, room, &mut scratch);
     answer(k, room)
 }

@@ -5,7 +5,7 @@
 --     Counting, counting-..        the loop with its scratch
 -- Assumes nothing.
 use Prim.Native.Nat.{ℕ, suc, ◌+◌, ◌-◌, ◌*◌, ◌≤◌, ◌<◌}
-use mathlib.Core.Path.{◌≡◌, refl, sym, ◌∙◌, ap, ap₂, subst}
+use mathlib.Core.Path.{◌≡◌, sym, ◌∙◌, ap, ap₂, subst}
 use mathlib.Core.Bool.{Bool, true}
 use mathlib.Core.List.{List, [], map}
 use native.Mathlib.Omega.{arith}
@@ -23,7 +23,6 @@ use Rattle.rewrite_rules.proofs.KindLaws.{kinds-most}
 use Rattle.rewrite_rules.proofs.RoleByRole.{entries_next, rows_next, entries_none, rows_none}
 use Rattle.rewrite_derive.specs.Derive.{Room}
 use Rattle.rewrite_derive.proofs.DeriveLaws.{masks-length}
-use Rattle.rewrite_derive.proofs.ScratchLaws.{Lent, lent-start, lent-on, room-lent}
 use Rattle.rewrite_grid.specs.Grid.{Parted}
 use Rattle.rewrite_grid.specs.Stretches.{field_kinds, stretch_count}
 use Rattle.rewrite_grid.proofs.LaidLaws.{fields-few}
@@ -32,9 +31,10 @@ use Rattle.rewrite_masks.specs.Kinds.{masks_of, Numbered}
 use Rattle.rewrite_role.specs.Parts.{RoleDerived, RoleDerivedTo}
 use Rattle.rewrite_rows.specs.Parts.{field_marks, HaveMarks, role_rows, runs_to, CountedRows}
 use Rattle.rewrite_rows.proofs.CountLaws.{stretches-rows}
-use Rattle.rewrite_count.specs.Parts.{length_with, Laid, CountedTo, KeepRoom}
+use Rattle.rewrite_count.specs.Parts.{length_with, CountedTo, KeepRoom}
+use Rattle.rewrite_count.specs.declared.fields.Fields.{Fields}
 use Rattle.rewrite_count.proofs.RowLaws.{rows-least}
-use Rattle.rewrite_count.proofs.KeptLaws.{PartRoom, keep-room-lent, room_at, found-few, Keeping, keeping_none, keeping-next}
+use Rattle.rewrite_count.proofs.KeptLaws.{PartRoom, room_at, found-few, Keeping, keeping_none, keeping-next}
 
 module _ {s : List ℕ} {ne nc n : ℕ} {kinds lens ends sets : List ℕ} (q : Numbered s ne nc n kinds lens ends sets) where
   -- the kind of every stretch has a mark
@@ -79,20 +79,24 @@ pub record RowsTo (limit : ℕ) (s : List ℕ) (r rows : ℕ) : Type 0 where
   pub least : (base : ℕ) → rows ≤ length (joined_at (rota_of s) r base)
   pub whole : rows ≤ limit → (base : ℕ) → rows ≡ length (joined_at (rota_of s) r base)
 
-pub rows-counted : {s : List ℕ} {ne n : ℕ} {kinds ends sets : List ℕ} → Laid s ne n kinds ends sets → {r : ℕ} {pairs marks : List ℕ} {d : ℕ}
-    → RoleDerived s r n pairs marks d → (limit rows : ℕ) → CountedRows limit (runs_to ends (field_marks marks kinds) ne) (stretch_count ends ne) rows
-    → RowsTo limit s r rows
-rows-counted {s} {ne} {n} {kinds} {ends} l {r} {marks = marks} t limit rows c =
-    record {
-      few = omega (arith, c.most, stretches-few l.numbered, fields-few l.parted);
-      least = λ base. omega (arith, c.least, all base);
-      whole = λ h base. c.whole h ∙ sym (all base);
-    }
-  where
-    all : (base : ℕ) → length (joined_at (rota_of s) r base) ≡ runs_to ends (field_marks marks kinds) ne
-    all base =
-        ap length (sym (role-rows-are l.parted l.numbered t base))
-        ∙ stretches-rows l.numbered.stretched marks base l.eras l.cells l.parted.era-cuts l.parted.cell_cuts
+module _ {s eras cells kinds lens ends sets : List ℕ} {ne nc n : ℕ} (g : Parted s eras ne cells nc) (q : Numbered s ne nc n kinds lens ends sets) where
+  pub rows-counted : {r : ℕ} {pairs marks : List ℕ} {d : ℕ} → RoleDerived s r n pairs marks d
+      → (limit rows : ℕ) → CountedRows limit (runs_to ends (field_marks marks kinds) ne) (stretch_count ends ne) rows → RowsTo limit s r rows
+  rows-counted {r} {marks = marks} t limit rows c =
+      record {
+        few = omega (arith, c.most, stretches-few q, fields-few g);
+        least = λ base. omega (arith, c.least, all base);
+        whole = λ h base. c.whole h ∙ sym (all base);
+      }
+    where
+      all : (base : ℕ) → length (joined_at (rota_of s) r base) ≡ runs_to ends (field_marks marks kinds) ne
+      all base = ap length (sym (role-rows-are g q t base)) ∙ stretches-rows q.stretched marks base eras cells g.era-cuts g.cell_cuts
+
+-- the same, by what the code ensures
+pub rows-within : (f : Fields) {r m limit k rows : ℕ} {pairs marks : List ℕ} → RoleDerivedTo limit f.roles.now.bytes.now r f.mask_count pairs marks m → m ≤ limit
+    → CountedRows k (runs_to f.ends.now (field_marks marks f.kinds.now) f.roles.now.division.now.era_count) (stretch_count f.ends.now f.roles.now.division.now.era_count) rows
+    → RowsTo k f.roles.now.bytes.now r rows
+rows-within f {k = k} {rows} q h c = rows-counted f.roles.now.divided f.numbered (q.whole h) k rows c
 
 -- of the roles from `first` to `end`, d derived roles and so many rows before role r
 pub record Before (s : List ℕ) (first end d rows r : ℕ) : Type 0 where
@@ -179,50 +183,47 @@ module _ (s : List ℕ) (first end : ℕ) where
 -- ---- the loop with its scratch
 
 -- where the roles are kept, those before role r are
-pub record Counting (keep : Bool) (s : List ℕ) (first end n : ℕ) (found₀ pairs₀ marks₀ links₀ found pairs marks links : List ℕ) (d rows r : ℕ) : Type 0 where
+pub record Counting (keep : Bool) (s : List ℕ) (first end n : ℕ) (found pairs marks : List ℕ) (d rows r : ℕ) : Type 0 where
   pub counts : Before s first end d rows r
-  pub lent : Lent pairs₀ marks₀ links₀ pairs marks links
-  pub found-long : length found ≡ length found₀
   pub past : first ≤ r
+  pub long : keep ≡ true → end ≤ first + length found
   pub keeping : keep ≡ true → Keeping s first (r - first) n d found pairs marks
 
-pub counting-none : (keep : Bool) (s : List ℕ) (first end n : ℕ) (found pairs marks links : List ℕ) → first ≤ end → end ≤ 32
-    → Counting keep s first end n found pairs marks links found pairs marks links 0 0 first
-counting-none keep s first end n found pairs marks links h m =
+pub counting-none : (keep : Bool) (s : List ℕ) (first end n : ℕ) (found pairs marks : List ℕ) → first ≤ end → end ≤ 32
+    → (keep ≡ true → end ≤ first + length found) → Counting keep s first end n found pairs marks 0 0 first
+counting-none keep s first end n found pairs marks h m l =
     record {
       counts = before-none s first end h m;
-      lent = lent-start pairs marks links;
-      found-long = refl;
       past = omega arith;
+      long = l;
       keeping = λ e. rw (let z : first - first ≡ 0 = omega arith in z) (keeping_none found pairs marks);
     }
 
-module _ {keep : Bool} {s : List ℕ} {first end n : ℕ} {found₀ pairs₀ marks₀ links₀ found pairs marks links : List ℕ} {d rows r : ℕ}
-    (c : Counting keep s first end n found₀ pairs₀ marks₀ links₀ found pairs marks links d rows r) (h : r < end) {at from : ℕ}
+module _ {keep : Bool} {s : List ℕ} {first end n : ℕ} {found pairs marks : List ℕ} {d rows r : ℕ}
+    (c : Counting keep s first end n found pairs marks d rows r) (h : r < end) {at from : ℕ}
     (ea : at ≡ pick keep (2 * d) 0) (ef : from ≡ pick keep ((r - first) * (n + 1)) 0) where
   -- there is room for role r
-  pub counting-room : {w : ℕ} {sets : List ℕ} → Room n w sets pairs₀ marks₀ links₀ → (keep ≡ true → KeepRoom (end - first) n pairs₀ marks₀)
+  pub counting-room : {w : ℕ} {sets links : List ℕ} → Room n w sets pairs marks links → (keep ≡ true → KeepRoom (end - first) n pairs marks)
       → PartRoom n w at from sets pairs marks links
-  counting-room r k =
-      room_at {roles = end - first} keep (room-lent c.lent r) (omega (arith, c.past)) (λ e. keep-room-lent c.lent (k e))
+  counting-room q k =
+      room_at {roles = end - first} keep q (omega (arith, c.past)) k
       (λ e. omega (arith, found-few _ (c.keeping e).kept, (c.keeping e).count)) ea ef
 
   -- role r is derived, and its rows are counted
-  pub counting-next : {pairs' marks' links' : List ℕ} (m k limit : ℕ) → length (masks_from [] (masks_of s)) ≤ n → n ≤ 33345 → end ≤ first + length found₀
-      → length pairs' ≡ length pairs → length marks' ≡ length marks → length links' ≡ length links → take at pairs' ≡ take at pairs → take from marks' ≡ take from marks
+  pub counting-next : {pairs' marks' : List ℕ} (m k limit : ℕ) → length (masks_from [] (masks_of s)) ≤ n → n ≤ 33345
+      → take at pairs' ≡ take at pairs → take from marks' ≡ take from marks
       → RoleDerived s r n (drop at pairs') (drop from marks') m → RowsTo limit s r k → k ≤ limit
-      → Counting keep s first end n found₀ pairs₀ marks₀ links₀ (set found (r - first) m) pairs' marks' links' (d + m) (rows + k) (r + 1)
-  counting-next {pairs'} {marks'} m k limit most few lf lp lm ll ep em q t l =
+      → Counting keep s first end n (set found (r - first) m) pairs' marks' (d + m) (rows + k) (r + 1)
+  counting-next {pairs'} {marks'} m k limit most few ep em q t l =
       record {
         counts = before-next s first end d rows r c.counts n m k limit h few q t l;
-        lent = lent-on c.lent lp lm ll;
-        found-long = length-set found (r - first) m ∙ c.found-long;
         past = omega (arith, c.past);
-        keeping = λ e. go (ea ∙ ap (λ (b : Bool). pick b (2 * d) 0) e) (ef ∙ ap (λ (b : Bool). pick b ((r - first) * (n + 1)) 0) e) (c.keeping e);
+        long = λ e. omega (arith, length-set found (r - first) m, c.long e);
+        keeping = λ e. go e (ea ∙ ap (λ (b : Bool). pick b (2 * d) 0) e) (ef ∙ ap (λ (b : Bool). pick b ((r - first) * (n + 1)) 0) e) (c.keeping e);
       }
     where
-      go : at ≡ 2 * d → from ≡ (r - first) * (n + 1) → Keeping s first (r - first) n d found pairs marks
+      go : keep ≡ true → at ≡ 2 * d → from ≡ (r - first) * (n + 1) → Keeping s first (r - first) n d found pairs marks
           → Keeping s first (r + 1 - first) n (d + m) (set found (r - first) m) pairs' marks'
-      go za zf g =
+      go e za zf g =
           let i : r + 1 - first ≡ suc (r - first) = omega (arith, c.past) in
-          rw (i) (keeping-next (omega (arith, c.past)) most (omega (arith, c.past, c.found-long)) g (rw (za) at ep) (rw (zf) at em) (rw (za, zf) at q))
+          rw (i) (keeping-next (omega (arith, c.past)) most (omega (arith, c.past, c.long e)) g (rw (za) at ep) (rw (zf) at em) (rw (za, zf) at q))

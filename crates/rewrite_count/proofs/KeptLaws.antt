@@ -1,45 +1,28 @@
 -- Roles that are kept from the count to the writing, each behind those before it.
---     part-is, back-drop, back-take        the part of a list from a place on, lent and given back
 --     masks-few, found-few                 no more kinds, and no more derived roles, than there are marks and pairs for
 --     found-more, kept_less                one role more, and fewer
 --     start_fits                           the place of a role's marks
---     PartRoom, keep-room-lent, room_at    room for a role where its part begins
+--     PartRoom, room_at                    room for a role where its part begins
 --     Keeping, keeping-..                  the roles so far
 -- Assumes nothing.
-use Prim.Native.Nat.{ℕ, zero, suc, ◌+◌, ◌-◌, ◌*◌, ◌≤◌, ◌<◌}
+use Prim.Native.Nat.{ℕ, zero, suc, ◌+◌, ◌*◌, ◌≤◌, ◌<◌}
 use mathlib.Core.Path.{◌≡◌, refl, sym, ◌∙◌, ap, ap₂}
 use mathlib.Core.Bool.{Bool, true, false}
-use mathlib.Core.List.{List, [], ◌++◌, append-nil}
+use mathlib.Core.List.{List, []}
 use native.Mathlib.Omega.{arith}
 use native.Mathlib.Nat.{mul-le-mul_right, mul-le-mul}
 use borrow.Author.Tests.{eqb-true, eqb-false}
 use lib.Dec.{eqb}
-use lib.ListN.{length, get_or, set, take, drop, length-drop, drop_of_length-le}
-use lib.Seq.{length-take-le, take_all, take_at, drop_at, get_or-take, get_or-drop, get_or-set_same, get_or-set_other}
+use lib.ListN.{length, get_or, set, take, drop, length-drop}
+use lib.Seq.{get_or-take, get_or-drop, get_or-set_same, get_or-set_other}
 use Rattle.ground.specs.Believed.Choice.{pick}
 use Rattle.rewrite_rules.specs.Kinds.{masks_from}
 use Rattle.rewrite_derive.specs.Derive.{Room}
 use Rattle.rewrite_derive.proofs.DeriveLaws.{masks-length}
-use Rattle.rewrite_derive.proofs.ScratchLaws.{Lent}
 use Rattle.rewrite_masks.specs.Kinds.{masks_of}
 use Rattle.rewrite_role.specs.Parts.{SetsAre, RoleDerived}
 use Rattle.rewrite_role.proofs.DerivedLaws.{role_same}
 use Rattle.rewrite_count.specs.Parts.{KeepRoom, found_to, Kept}
-
--- ---- parts
-
-pub part-is : (a : ℕ) (l : List ℕ) → take (length l - a) (drop a l) ≡ drop a l
-part-is a l = take_all (length l - a) (drop a l) (omega (arith, length-drop a l))
-
--- what was lent from place a on is back
-module _ (a : ℕ) (l p : List ℕ) (h : a ≤ length l) where
-  pub back-drop : drop a (take a l ++ (p ++ drop (length l - a) (drop a l))) ≡ p
-  back-drop =
-      drop_at (take a l) (p ++ drop (length l - a) (drop a l)) a (length-take-le a l h)
-      ∙ ap (λ (q : List ℕ). p ++ q) (drop_of_length-le (drop a l) {i = length l - a} (omega (arith, length-drop a l))) ∙ append-nil p
-
-  pub back-take : take a (take a l ++ (p ++ drop (length l - a) (drop a l))) ≡ take a l
-  back-take = take_at (take a l) (p ++ drop (length l - a) (drop a l)) a (length-take-le a l h)
 
 -- lists that agree in their first c places, within a part of these
 same_at : (l l' : List ℕ) (c : ℕ) → take c l' ≡ take c l → (a k : ℕ) → a + k < c → get_or (drop a l') k 0 ≡ get_or (drop a l) k 0
@@ -88,10 +71,6 @@ found-few {n = n} (suc i) k = omega (arith, found-few i (kept_less i (omega arit
 -- the place of a role's marks fits a word
 pub start_fits : (i n : ℕ) → i ≤ 32 → n ≤ 33345 → i * (n + 1) ≤ 1067072
 start_fits i n h k = omega (arith, let q : i * (n + 1) ≤ 32 * 33346 = mul-le-mul {m₂ = 33346} h (omega arith) in q)
-
-pub keep-room-lent : {roles n : ℕ} {pairs₀ marks₀ links₀ pairs marks links : List ℕ} → Lent pairs₀ marks₀ links₀ pairs marks links → KeepRoom roles n pairs₀ marks₀
-    → KeepRoom roles n pairs marks
-keep-room-lent l k = record { for-pairs = omega (arith, k.for-pairs, l.of-pairs); for-marks = omega (arith, k.for-marks, l.of-marks) }
 
 -- room for one role more
 pub record PartRoom (n w at from : ℕ) (sets pairs marks links : List ℕ) : Type 0 where

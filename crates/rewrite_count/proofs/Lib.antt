@@ -1,3 +1,4 @@
+pub mod ScratchLaws
 pub mod KeptLaws
 pub mod RowLaws
 pub mod CountLaws

@@ -1,12 +1,12 @@
 -- The loop over the masks of a role: what is left, done from where the loop stands, is the whole.
 --     settled-none, settled-step    what is settled: no minute, and a mask after its own step
---     step_same, step-marked        one mask: the one before again, and one that was marked
+--     marked-again                  the mask before again
 --     Deriving, deriving-..         the loop; Going, going-.. with its index and the mask before
 -- Assumes nothing.
 use Prim.Native.Nat.{ℕ, suc, ◌+◌, ◌*◌, ◌<◌, ◌≤◌}
 use mathlib.Core.Path.{◌≡◌, refl, sym, ◌∙◌, ap, ap₂}
 use mathlib.Core.Bool.{Bool}
-use mathlib.Core.Option.{Option, none}
+use Rattle.std.proofs.Common.{max, Option, None}
 use mathlib.Core.List.{List, [], ◌∷◌, ◌++◌, append-nil}
 use native.Mathlib.Omega.{arith}
 use native.Mathlib.Numerals.{add-one}
@@ -24,46 +24,36 @@ use Rattle.rewrite_index.specs.Entries.{entries_to}
 use Rattle.rewrite_index.proofs.EntryLaws.{entries-length, entries_none}
 use Rattle.rewrite_sets.specs.declared.Role.{Role}
 use Rattle.rewrite_trees.specs.Tree.{Indexed}
-use Rattle.rewrite_unions.specs.Union.{union_of}
+use Rattle.rewrite_unions.specs.Union.{union_of, all_of}
 use Rattle.rewrite_sets.specs.Role.{sets_made, sets_in, kept_with, kept_by}
-use Rattle.rewrite_sets.specs.Mark.{Marked}
-use Rattle.rewrite_sets.proofs.MarkLaws.{grown-yes, grown-no}
-use Rattle.rewrite_derive.specs.declared.Step.{Step}
-use Rattle.rewrite_derive.specs.Derive.{Settled, Stepped, Room, Derived, DerivedTo}
+use Rattle.rewrite_derive.specs.Mark.{mark_at, grown, Marked}
+use Rattle.rewrite_derive.specs.Derive.{Room, Derived, DerivedTo}
 use Rattle.rewrite_derive.proofs.ScratchLaws.{room-kept}
 
 -- ---- what is settled
 
-pub settled-none : (es : List Entry) (o : Option Entry) → o ≡ none → Settled es o 0
+-- what o gives is among the entries es, and m is its mark
+pub record Settled (es : List Entry) (o : Option Entry) (m : ℕ) : Type 0 where
+  pub mark-is : m ≡ mark_of es o
+  pub none-new : next_entries es o ≡ es
+
+pub settled-none : (es : List Entry) (o : Option Entry) → o ≡ None → Settled es o 0
 unfolding mark_of next_entries
 settled-none es o e = rw e (record { mark-is = refl; none-new = refl })
 
-pub settled-step : {source : ℕ} {o : Option Entry} {d : ℕ} {pairs pairs' : List ℕ} {k : Step} → Stepped source o d pairs pairs' k
-    → Settled (entries_to source k.entries pairs') o k.mark
-settled-step {source} {o} {d} {pairs} s =
-    let es = entries_to source d pairs in
-    rw s.entries-then
-    (record { mark-is = s.mark-is ∙ sym (mark-next es o); none-new = known_same (next_entries es o) o (known_next es o) })
+module _ {source : ℕ} {o : Option Entry} {d : ℕ} {pairs : List ℕ} {place : Option ℕ} where
+  -- a mask after its own step
+  pub settled-step : {pairs' : List ℕ} → Marked source o d pairs pairs' place → Settled (entries_to source (grown d place) pairs') o (mark_at place)
+  settled-step s =
+      let es = entries_to source d pairs in
+      rw s.entries-then
+      (record { mark-is = s.marked ∙ sym (mark-next es o); none-new = known_same (next_entries es o) o (known_next es o) })
 
--- ---- one mask
-
-abbrev step_made : ℕ → ℕ → Step
-step_made mark entries = record { mark = mark; entries = entries }
-
-pub step_same : (source : ℕ) (o o' : Option Entry) (d : ℕ) (pairs : List ℕ) (mark : ℕ) → Settled (entries_to source d pairs) o mark → mark ≤ d → o' ≡ o
-    → Stepped source o' d pairs pairs (step_made mark d)
-step_same source o o' d pairs mark s h e = rw e (record { mark-is = s.mark-is; entries-then = sym s.none-new; most = omega arith; small = h })
-
-module _ (source : ℕ) {o : Option Entry} (o' : Option Entry) {d : ℕ} {pairs pairs' : List ℕ} {m : ℕ} (k : Marked source o d pairs pairs' m) (e : o ≡ o') where
-  step-marked : (n : ℕ) → entries_to source n pairs' ≡ next_entries (entries_to source d pairs) o → n ≤ d + 1 → m ≤ n → Stepped source o' d pairs pairs' (step_made m n)
-  step-marked n q h l =
-      rw (← e) (record { mark-is = k.marked; entries-then = q; most = h; small = l })
-
-  pub step-new : m ≡ d + 1 → Stepped source o' d pairs pairs' (step_made m (d + 1))
-  step-new z = step-marked (d + 1) (ap (λ (n : ℕ). entries_to source n pairs') (grown-yes d m z) ∙ k.entries-then) (omega arith) (omega arith)
-
-  pub step-old : (m ≡ d + 1 → ⊥) → Stepped source o' d pairs pairs' (step_made m d)
-  step-old z = step-marked d (ap (λ (n : ℕ). entries_to source n pairs') (grown-no d m z) ∙ k.entries-then) (omega arith) (omega (arith, k.small))
+  -- the mask before again
+  pub marked-again : Settled (entries_to source d pairs) o (mark_at place) → mark_at place ≤ d → Marked source o d pairs pairs place
+  marked-again s h =
+      let e : max d (mark_at place) ≡ d = omega arith in
+      record { marked = s.mark-is; small = omega arith; entries-then = ap (λ (n : ℕ). entries_to source n pairs) e ∙ sym s.none-new }
 
 -- ---- one mask more of a list
 
@@ -124,21 +114,21 @@ deriving-start role sets n pairs marks h =
 
 module _ {role : Role} {sets : List ℕ} {n : ℕ} {pairs marks : List ℕ} {d i : ℕ} (s : Deriving role sets n pairs marks d i) (room : n ≤ length sets) where
   -- one mask more
-  pub deriving-turn : (pairs' : List ℕ) (o : Option Entry) (k : Step) → i < n → i + 1 < length marks → o ≡ kept_by role (insert (get_or sets i 0) 32)
-      → Stepped role.source o d pairs pairs' k
-      → Deriving role sets n pairs' (set marks (i + 1) k.mark) k.entries (i + 1)
-  deriving-turn pairs' o k hi hm eo t =
+  pub deriving-turn : (pairs' : List ℕ) (o : Option Entry) (place : Option ℕ) → i < n → i + 1 < length marks → o ≡ kept_by role (insert (get_or sets i 0) 32)
+      → Marked role.source o d pairs pairs' place
+      → Deriving role sets n pairs' (set marks (i + 1) (mark_at place)) (grown d place) (i + 1)
+  deriving-turn pairs' o place hi hm eo t =
       let ms = masks_in sets n in
       let es = entries_to role.source d pairs in
       let hi' : i < length ms = omega (arith, masks-length sets n room) in
       let eg : o ≡ kept_by role (get_or ms i 0) = eo ∙ ap (kept_by role) (sym (masks-at sets n room i hi)) in
-      let em : k.mark ≡ mark_of es (kept_by role (get_or ms i 0)) = t.mark-is ∙ ap (mark_of es) eg in
-      let ee : entries_to role.source k.entries pairs' ≡ next_entries es (kept_by role (get_or ms i 0)) = t.entries-then ∙ ap (next_entries es) eg in
+      let em : mark_at place ≡ mark_of es (kept_by role (get_or ms i 0)) = t.marked ∙ ap (mark_of es) eg in
+      let ee : entries_to role.source (grown d place) pairs' ≡ next_entries es (kept_by role (get_or ms i 0)) = t.entries-then ∙ ap (next_entries es) eg in
       record {
         within = omega arith;
-        few = omega (arith, s.few, t.most);
-        entries = entries-turn (kept_by role) ms i hi' es (entries_to role.source k.entries pairs') k.mark em ee ∙ s.entries;
-        marks-so = marks-turn (kept_by role) ms i hi' es (entries_to role.source k.entries pairs') k.mark em ee marks hm ∙ s.marks-so;
+        few = omega (arith, s.few, t.small);
+        entries = entries-turn (kept_by role) ms i hi' es (entries_to role.source (grown d place) pairs') (mark_at place) em ee ∙ s.entries;
+        marks-so = marks-turn (kept_by role) ms i hi' es (entries_to role.source (grown d place) pairs') (mark_at place) em ee marks hm ∙ s.marks-so;
       }
 
   deriving-end : n ≤ i → Derived role sets n pairs marks d
@@ -178,23 +168,21 @@ module _ {role : Role} {sets : List ℕ} {n : ℕ} {pairs marks : List ℕ} {d i
       }
 
 -- with no hours the role has nothing
-pub kept-nothing : (role : Role) → kept_by role 0 ≡ none
+pub kept-nothing : (role : Role) → kept_by role 0 ≡ None
 unfolding kept_by sets_in
 kept-nothing role = ap (λ (b : Bool). kept_with role.source (pick b (sets_made (union_of role.users 0 33) (union_of role.permissions 0 33)) (sets_made 0 0))) (has-none role.on)
 
--- the loop with its index, and the mask before
-pub record Going (role : Role) (sets : List ℕ) (n w a b : ℕ) (pairs₀ marks₀ links₀ pairs marks links : List ℕ) (d last mark i : ℕ) : Type 0 where
+-- the loop with its index, and the mask before and its mark
+pub record Going (role : Role) (sets : List ℕ) (n w : ℕ) (pairs marks links : List ℕ) (d last mark i : ℕ) : Type 0 where
   pub so_far : Deriving role sets n pairs marks d i
-  pub indexed : Indexed w d pairs links a b
+  pub indexed : Indexed w d pairs links (all_of role.users) (all_of role.permissions)
   pub settled : Settled (entries_to role.source d pairs) (kept_by role last) mark
   pub small : mark ≤ d
   pub room : Room n w sets pairs marks links
-  pub long-pairs : length pairs ≡ length pairs₀
-  pub long-marks : length marks ≡ length marks₀
-  pub long-links : length links ≡ length links₀
 
-pub going_start : (role : Role) {sets : List ℕ} {n w a b : ℕ} {pairs marks links₀ links : List ℕ} → Room n w sets pairs marks links₀ → Indexed w 0 pairs links a b
-    → length links ≡ length links₀ → Going role sets n w a b pairs (set marks 0 0) links pairs (set marks 0 0) links 0 0 0 0
+pub going_start : (role : Role) {sets : List ℕ} {n w : ℕ} {pairs marks links₀ links : List ℕ} → Room n w sets pairs marks links₀
+    → Indexed w 0 pairs links (all_of role.users) (all_of role.permissions)
+    → length links ≡ length links₀ → Going role sets n w pairs (set marks 0 0) links 0 0 0 0
 going_start role {sets} {n} {pairs = pairs} {marks} r x l =
     record {
       so_far = deriving-start role sets n pairs marks (omega (arith, r.for-marks));
@@ -202,13 +190,10 @@ going_start role {sets} {n} {pairs = pairs} {marks} r x l =
       settled = settled-none (entries_to role.source 0 pairs) (kept_by role 0) (kept-nothing role);
       small = omega arith;
       room = room-kept r refl (length-set marks 0 0) l;
-      long-pairs = refl;
-      long-marks = refl;
-      long-links = refl;
     }
 
-module _ {role : Role} {sets : List ℕ} {n w a b : ℕ} {pairs₀ marks₀ links₀ pairs marks links : List ℕ} {d last mark i : ℕ}
-    (g : Going role sets n w a b pairs₀ marks₀ links₀ pairs marks links d last mark i) where
+module _ {role : Role} {sets : List ℕ} {n w : ℕ} {pairs marks links : List ℕ} {d last mark i : ℕ}
+    (g : Going role sets n w pairs marks links d last mark i) where
   pub going-room : i < n → (2 * d + 1 < length pairs) × (w + 2 * d + 1 < length links) × (d < 33345) × (0 < w) × (w ≤ 65536)
   going-room h =
       let r = g.room in (
@@ -220,17 +205,22 @@ module _ {role : Role} {sets : List ℕ} {n w a b : ℕ} {pairs₀ marks₀ link
       )
 
   -- one mask more, cut to the hours that the role names
-  pub going-turn : (pairs' links' : List ℕ) (m : ℕ) (k : Step) → i < n → kept_by role m ≡ kept_by role (insert (get_or sets i 0) 32)
-      → Stepped role.source (kept_by role m) d pairs pairs' k → Indexed w k.entries pairs' links' a b → length pairs' ≡ length pairs → length links' ≡ length links
-      → Going role sets n w a b pairs₀ marks₀ links₀ pairs' (set marks (i + 1) k.mark) links' k.entries m k.mark (i + 1)
-  going-turn pairs' links' m k h e t x lp ll =
+  pub going-turn : (pairs' links' : List ℕ) (m : ℕ) (place : Option ℕ) → i < n → kept_by role m ≡ kept_by role (insert (get_or sets i 0) 32)
+      → Marked role.source (kept_by role m) d pairs pairs' place → Indexed w (grown d place) pairs' links' (all_of role.users) (all_of role.permissions)
+      → length pairs' ≡ length pairs → length links' ≡ length links
+      → Going role sets n w pairs' (set marks (i + 1) (mark_at place)) links' (grown d place) m (mark_at place) (i + 1)
+  going-turn pairs' links' m place h e t x lp ll =
       record {
-        so_far = deriving-turn g.so_far g.room.for-sets pairs' (kept_by role m) k h (omega (arith, g.room.for-marks)) e t;
+        so_far = deriving-turn g.so_far g.room.for-sets pairs' (kept_by role m) place h (omega (arith, g.room.for-marks)) e t;
         indexed = x;
         settled = settled-step t;
-        small = t.small;
-        room = room-kept g.room lp (length-set marks (i + 1) k.mark) ll;
-        long-pairs = lp ∙ g.long-pairs;
-        long-marks = length-set marks (i + 1) k.mark ∙ g.long-marks;
-        long-links = ll ∙ g.long-links;
+        small = omega arith;
+        room = room-kept g.room lp (length-set marks (i + 1) (mark_at place)) ll;
       }
+
+-- the mask before again
+pub going-again : {role : Role} {sets : List ℕ} {n w : ℕ} {pairs marks links : List ℕ} {d last i m : ℕ} {place : Option ℕ} → Going role sets n w pairs marks links d last (mark_at place) i
+    → m ≡ last → Marked role.source (kept_by role m) d pairs pairs place × Indexed w (grown d place) pairs links (all_of role.users) (all_of role.permissions)
+going-again {d = d} {place = place} g e =
+    let q : max d (mark_at place) ≡ d = omega (arith, g.small) in
+    (rw e (marked-again g.settled g.small), rw q g.indexed)

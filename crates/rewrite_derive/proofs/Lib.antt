@@ -1,3 +1,4 @@
+pub mod MarkLaws
 pub mod NamedLaws
 pub mod ScratchLaws
 pub mod DeriveLaws

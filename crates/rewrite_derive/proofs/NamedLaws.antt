@@ -13,8 +13,8 @@ use Rattle.bitset.specs.Believed.Sets.{has, insert, union, intersection}
 use Rattle.bitset.proofs.SetLaws.{has-insert, has-union, has-intersection, insert-self, union-nothing}
 use Rattle.rewrite_unions.specs.Union.{union_of, in_use, used_in}
 use Rattle.rewrite_unions.proofs.UnionLaws.{union-lt, used-at}
+use Rattle.rewrite_sets.specs.declared.Role.{Role}
 use Rattle.rewrite_sets.specs.Role.{sets_made, sets_in, kept_with, kept_by}
-use Rattle.rewrite_derive.specs.Derive.{role_made}
 
 -- two masks that agree on the slots in use take the same
 unions-agree : (sets : List ℕ) (m m' k : ℕ) → ((j : ℕ) → j < k → in_use sets j ≡ true → has m' j ≡ has m j) → union_of sets m' k ≡ union_of sets m k
@@ -33,23 +33,23 @@ unions-agree sets m m' (suc k) h =
     go true z f = let y = eqb-true (get_or sets k 0) 0 z in flat (has m' k) y ∙ sym (flat (has m k) y)
     go false z f = ap (λ (b : Bool). pick b (union (union_of sets m k) (get_or sets k 0)) (union_of sets m k)) (f refl)
 
-module _ (source on : ℕ) (users permissions : List ℕ) (named : ℕ) (en : named ≡ insert (union (used_in users) (used_in permissions)) on) (small : on < 33) where
-  member : (j : ℕ) → j < 33 → (has (used_in users) j || has (used_in permissions) j) ≡ true → has named j ≡ true
+module _ (ρ : Role) (named : ℕ) (en : named ≡ insert (union (used_in ρ.users) (used_in ρ.permissions)) ρ.on) (small : ρ.on < 33) where
+  member : (j : ℕ) → j < 33 → (has (used_in ρ.users) j || has (used_in ρ.permissions) j) ≡ true → has named j ≡ true
   member j l e =
-      ap (λ (x : ℕ). has x j) en ∙ has-insert (union (used_in users) (used_in permissions)) on j (omega arith)
-      ∙ ap (λ (b : Bool). b || eqb j on) (has-union (used_in users) (used_in permissions) j (omega arith) ∙ e)
+      ap (λ (x : ℕ). has x j) en ∙ has-insert (union (used_in ρ.users) (used_in ρ.permissions)) ρ.on j (omega arith)
+      ∙ ap (λ (b : Bool). b || eqb j ρ.on) (has-union (used_in ρ.users) (used_in ρ.permissions) j (omega arith) ∙ e)
 
   cut : (m j : ℕ) → j < 33 → has named j ≡ true → has (intersection m named) j ≡ has m j
   cut m j l e = has-intersection m named j (omega arith) ∙ ap (λ (b : Bool). has m j && b) e ∙ and-true (has m j)
 
   -- a mask cut to the hours that the role names
-  pub named-same : (m : ℕ) → kept_by (role_made source on users permissions) (intersection m named) ≡ kept_by (role_made source on users permissions) m
+  pub named-same : (m : ℕ) → kept_by ρ (intersection m named) ≡ kept_by ρ m
   unfolding kept_by sets_in
   named-same m =
-      ap (kept_with source)
-      (ap₂ (λ (b : Bool) (x : ℕ). pick b (sets_made x (union_of permissions (intersection m named) 33)) (sets_made 0 0))
-      (cut m on small (ap (λ (x : ℕ). has x on) en ∙ insert-self (union (used_in users) (used_in permissions)) on (omega arith)))
-      (unions-agree users m (intersection m named) 33 (λ j l e. cut m j l (member j l (ap (λ (b : Bool). b || has (used_in permissions) j) (used-at users j l ∙ e)))))
-      ∙ ap (λ (x : ℕ). pick (has m on) (sets_made (union_of users m 33) x) (sets_made 0 0))
-      (unions-agree permissions m (intersection m named) 33
-      (λ j l e. cut m j l (member j l (ap (λ (b : Bool). has (used_in users) j || b) (used-at permissions j l ∙ e) ∙ or-true (has (used_in users) j))))))
+      ap (kept_with ρ.source)
+      (ap₂ (λ (b : Bool) (x : ℕ). pick b (sets_made x (union_of ρ.permissions (intersection m named) 33)) (sets_made 0 0))
+      (cut m ρ.on small (ap (λ (x : ℕ). has x ρ.on) en ∙ insert-self (union (used_in ρ.users) (used_in ρ.permissions)) ρ.on (omega arith)))
+      (unions-agree ρ.users m (intersection m named) 33 (λ j l e. cut m j l (member j l (ap (λ (b : Bool). b || has (used_in ρ.permissions) j) (used-at ρ.users j l ∙ e)))))
+      ∙ ap (λ (x : ℕ). pick (has m ρ.on) (sets_made (union_of ρ.users m 33) x) (sets_made 0 0))
+      (unions-agree ρ.permissions m (intersection m named) 33
+      (λ j l e. cut m j l (member j l (ap (λ (b : Bool). has (used_in ρ.users) j || b) (used-at ρ.permissions j l ∙ e) ∙ or-true (has (used_in ρ.users) j))))))

@@ -3,19 +3,43 @@
 #![tactic(auto)]
 
 ghost use Rattle.std.specs.Prelude.{◌≡◌, ◌+◌, ◌*◌, ◌<◌, ◌≤◌, length, get_or};
-ghost use Rattle.bitset.specs.Believed.Sets.{insert};
+ghost use Rattle.bitset.specs.Believed.Sets.{insert, union};
 ghost use Rattle.rewrite_trees.specs.Tree.{Indexed};
-ghost use Rattle.rewrite_index.specs.Entries.{entries_to};
+ghost use Rattle.rewrite_unions.specs.Union.{used_in, all_of};
 ghost use Rattle.rewrite_sets.specs.Role.{kept_by};
-ghost use Rattle.rewrite_derive.specs.Derive.{role_made, Ready, Settled, Stepped, Room, DerivedTo};
+ghost use Rattle.rewrite_derive.specs.Mark.{mark_at, grown, Marked};
+ghost use Rattle.rewrite_derive.specs.Derive.{Room, DerivedTo};
 
 use rewrite_sets::Role;
 
-// The mark of a mask, and how many derived roles there are with it.
-#[derive(Clone, Copy)]
-pub struct Step {
-    pub mark: usize,
-    pub entries: usize,
+// Where the pair of sets that the role has in a field with this mask stands, among the first d pairs or as the next one, d. None where it has nothing there.
+fn enter_field(
+    role: &Role,
+    mask: u64,
+    pairs: &mut [u64],
+    links: &mut [u16],
+    w: usize,
+    d: usize,
+) -> Option<usize>
+    requires d_in_bounds { (2 * d + 1 < length pairs.old) × (w + 2 * d + 1 < length links.old) × (d < 33345) × (0 < w) × (w ≤ 65536) × (role.now.on < 64) }
+    requires indexed { Indexed w d pairs.old links.old (all_of role.now.users) (all_of role.now.permissions) }
+    ensures { Marked role.now.source (kept_by role.now mask) d pairs.old pairs.new result
+        × Indexed w (grown d result) pairs.new links.new (all_of role.now.users) (all_of role.now.permissions) }
+{
+    let x = role.sets_in(mask)?;
+    let a = role.users.all();
+    let b = role.permissions.all();
+    Some(rewrite_index::enter(
+        role.source,
+        pairs,
+        links,
+        w,
+        a,
+        b,
+        d,
+        x.users,
+        x.permissions,
+    ))
 }
 
 // Mask i: the hours of set i, and always.
@@ -26,68 +50,30 @@ fn mask_at(sets: &[u32], i: usize) -> u64
     bitset::with(sets[i] as u64, 32)
 }
 
-// The mark of mask m, after mask `last` with `mark`: neighbours often differ only in hours that the role does not name.
-fn next_mark(
-    source: u8,
-    on: u32,
-    users: &[u64; 33],
-    user_slots: u64,
-    user_table: &[u64; 128],
-    user_groups: usize,
-    permissions: &[u64; 33],
-    permission_slots: u64,
-    permission_table: &[u64; 128],
-    permission_groups: usize,
-    pairs: &mut [u64],
-    links: &mut [u16],
-    w: usize,
-    a: u64,
-    b: u64,
-    d: usize,
-    m: u64,
-    last: u64,
-    mark: usize,
-) -> Step
-    requires d_in_bounds { (2 * d + 1 < length pairs.old) × (w + 2 * d + 1 < length links.old) × (d < 33345) × (0 < w) × (w ≤ 65536) × (on < 64) }
-    requires ready { Ready users.now user_slots user_table.now user_groups a × Ready permissions.now permission_slots permission_table.now permission_groups b }
-    requires indexed { Indexed w d pairs.old links.old a b
-        × Settled (entries_to source d pairs.old) (kept_by (role_made source on users.now permissions.now) last) mark × (mark ≤ d) }
-    ensures { Stepped source (kept_by (role_made source on users.now permissions.now) m) d pairs.old pairs.new result
-        × Indexed w result.entries pairs.new links.new a b }
+// The slots that the role names: its own, and those of its users and its permissions.
+fn named(role: &Role) -> u64
+    requires { role.now.on < 64 }
+    ensures { result ≡ insert (union (used_in role.now.users) (used_in role.now.permissions)) role.now.on }
 {
-    if m == last {
-        return Step { mark, entries: d };
-    }
-    let x = rewrite_sets::sets_in(
-        on,
-        users,
-        user_slots,
-        user_table,
-        user_groups,
-        permissions,
-        permission_slots,
-        permission_table,
-        permission_groups,
-        m,
-    );
-    let k = rewrite_sets::mark_field(source, x, pairs, links, w, a, b, d);
-    if k == d + 1 {
-        return Step {
-            mark: k,
-            entries: d + 1,
-        };
-    }
-    Step {
-        mark: k,
-        entries: d,
+    let slots = bitset::either(role.users.used(), role.permissions.used());
+    bitset::with(slots, role.on)
+}
+
+// The mark of a mask: 0 where the role has nothing with it, else one more than the place of its derived role. It fits two bytes, as the marks are kept.
+fn mark_at(place: Option<usize>) -> usize
+    requires { mark_at place ≤ 65535 }
+    ensures { result ≡ mark_at place }
+{
+    match place {
+        None => 0,
+        Some(k) => k + 1,
     }
 }
 
 // The marks of the masks with the first n sets of hours, behind that of kind 0, and the pairs of sets that they are the numbers of: how many pairs. The
-// index of the pairs has w trees, and goes by the members a and b: all users and all permissions that the role can have. It stops once it has more than
-// `limit` pairs.
+// index of the pairs has w trees, and goes by all users and all permissions that the role can have. It stops once it has more than `limit` pairs.
 pub fn derive(
-    role: Role,
+    role: &Role,
     sets: &[u32],
     n: usize,
     limit: usize,
@@ -96,63 +82,28 @@ pub fn derive(
     links: &mut [u16],
     w: usize,
 ) -> usize
-    requires { (role.on < 33) × Room n w sets.now pairs.old marks.old links.old }
-    ensures { DerivedTo limit role sets.now n pairs.new marks.new result }
+    requires { (role.now.on < 33) × Room n w sets.now pairs.old marks.old links.old }
+    ensures { DerivedTo limit role.now sets.now n pairs.new marks.new result }
 {
-    let source = role.source;
-    let on = role.on;
-    let users = role.users;
-    let permissions = role.permissions;
-    let user_slots = rewrite_unions::used_in(&users);
-    let permission_slots = rewrite_unions::used_in(&permissions);
-    let a = rewrite_unions::union_in(&users, user_slots, user_slots);
-    let b = rewrite_unions::union_in(&permissions, permission_slots, permission_slots);
-    let mut user_table = [0u64; 128];
-    let mut permission_table = [0u64; 128];
-    let user_groups = rewrite_unions::fill(&users, user_slots, &mut user_table);
-    let permission_groups = rewrite_unions::fill(
-        &permissions,
-        permission_slots,
-        &mut permission_table,
-    );
-    let named = bitset::with(bitset::either(user_slots, permission_slots), on);
+    let named = named(role);
     rewrite_index::clear(links, w);
     marks[0] = 0;
     let mut d = 0;
     let mut last = 0;
-    let mut mark = 0;
-    let mut i = 0;
-    while i < n {
+    let mut place = None;
+    for i in 0..n {
         if limit < d {
             return d;
         }
         let m = bitset::both(mask_at(sets, i), named);
-        let k = next_mark(
-            source,
-            on,
-            &users,
-            user_slots,
-            &user_table,
-            user_groups,
-            &permissions,
-            permission_slots,
-            &permission_table,
-            permission_groups,
-            pairs,
-            links,
-            w,
-            a,
-            b,
-            d,
-            m,
-            last,
-            mark,
-        );
-        marks[i + 1] = k.mark as u16;
-        last = m;
-        mark = k.mark;
-        d = k.entries;
-        i += 1;
+        // Neighbours often differ only in hours that the role does not name.
+        if m != last {
+            place = enter_field(role, m, pairs, links, w, d);
+            last = m;
+        }
+        let mark = mark_at(place);
+        d = d.max(mark);
+        marks[i + 1] = mark as u16;
     }
     d
 }

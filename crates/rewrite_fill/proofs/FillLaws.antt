@@ -19,13 +19,16 @@ use Rattle.rewrite_rules.specs.Believed.Rewriting.{size_of}
 use Rattle.rewrite_rules.specs.Roles.{entries_at, joined_at, entries_from, joined_from, rewrite_roles}
 use Rattle.rewrite_rules.proofs.RoleByRole.{entries_next, rows_next, entries_none, rows_none}
 use Rattle.rewrite_derive.specs.Derive.{Room}
-use Rattle.rewrite_derive.proofs.ScratchLaws.{Lent, lent-start, lent-on, room-lent}
 use Rattle.rewrite_index.specs.Entries.{entries_to}
 use Rattle.rewrite_grid.specs.Grid.{Cuts}
 use Rattle.rewrite_role.specs.Parts.{RoleDerived}
 use Rattle.rewrite_rows.proofs.WriteLaws.{entry-long, row-long}
-use Rattle.rewrite_count.specs.Parts.{KeepRoom, found_to, Kept}
-use Rattle.rewrite_count.proofs.KeptLaws.{PartRoom, keep-room-lent, room_at, kept_less, found-few, found-more}
+use Rattle.std.specs.Prelude.{is_some}
+use Rattle.rewrite_count.specs.Parts.{KeepRoom, RoomFor, SameRoom, found_to, Kept}
+use Rattle.rewrite_count.specs.declared.fields.Fields.{Fields}
+use Rattle.rewrite_count.specs.declared.scratch.Scratch.{Scratch}
+use Rattle.rewrite_count.proofs.ScratchLaws.{room-stays}
+use Rattle.rewrite_count.proofs.KeptLaws.{PartRoom, room_at, kept_less, found-few, found-more}
 
 -- cuts with another bound
 pub cuts-to : {l a : List ℕ} {n top : ℕ} (top' : ℕ) → top ≤ top' → Cuts l a n top → Cuts (take (n + 1) a) a n top'
@@ -138,20 +141,19 @@ size_room τ total n e h = omega (arith, e)
 -- ---- the loop with its scratch
 
 -- where the roles were kept they still are, and those before role r have d derived roles
-pub record Held (keep : Bool) (s : List ℕ) (first end n total : ℕ) (found out₀ pairs₀ marks₀ links₀ out pairs marks links : List ℕ) (d p r : ℕ) : Type 0 where
+pub record Held (keep : Bool) (s : List ℕ) (first end n total : ℕ) (found out₀ out pairs marks : List ℕ) (d p r : ℕ) : Type 0 where
   pub filling : Filling s first end total out₀ out d p r
-  pub lent : Lent pairs₀ marks₀ links₀ pairs marks links
   pub past : first ≤ r
   pub kept : keep ≡ true → Kept s first (end - first) n found pairs marks
   pub count : keep ≡ true → d ≡ found_to found (r - first)
 
-module _ {keep : Bool} {s : List ℕ} {first end n total : ℕ} {found out₀ pairs₀ marks₀ links₀ out pairs marks links : List ℕ} {d p r : ℕ}
-    (c : Held keep s first end n total found out₀ pairs₀ marks₀ links₀ out pairs marks links d p r) (h : r < end) {at from : ℕ}
+module _ {keep : Bool} {s : List ℕ} {first end n total : ℕ} {found out₀ out pairs marks : List ℕ} {d p r : ℕ}
+    (c : Held keep s first end n total found out₀ out pairs marks d p r) (h : r < end) {at from : ℕ}
     (ea : at ≡ pick keep (2 * d) 0) (ef : from ≡ pick keep ((r - first) * (n + 1)) 0) where
-  pub held-room : {w : ℕ} {sets : List ℕ} → Room n w sets pairs₀ marks₀ links₀ → (keep ≡ true → KeepRoom (end - first) n pairs₀ marks₀)
+  pub held-room : {w : ℕ} {sets links : List ℕ} → Room n w sets pairs marks links → (keep ≡ true → KeepRoom (end - first) n pairs marks)
       → PartRoom n w at from sets pairs marks links
   held-room q k =
-      room_at {roles = end - first} keep (room-lent c.lent q) (omega (arith, c.past)) (λ e. keep-room-lent c.lent (k e))
+      room_at {roles = end - first} keep q (omega (arith, c.past)) k
       (λ e. omega (arith, found-few (r - first) (kept_less (r - first) (omega (arith, c.past)) (c.kept e)), c.count e)) ea ef
 
   -- role r is there where it was kept
@@ -162,30 +164,35 @@ module _ {keep : Bool} {s : List ℕ} {first end n total : ℕ} {found out₀ pa
       let zr : first + (r - first) ≡ r = omega (arith, c.past) in
       rw (za, zf) (rw (zr) at ((c.kept e).each (r - first) (omega (arith, c.past))))
 
-  pub held_next : {out' pairs' marks' links' : List ℕ} {p' m : ℕ} → Filling s first end total out₀ out' (d + m) p' (r + 1)
-      → length pairs' ≡ length pairs → length marks' ≡ length marks → length links' ≡ length links
-      → (keep ≡ true → (m ≡ get_or found (r - first) 0) × (pairs' ≡ pairs) × (marks' ≡ marks))
-      → Held keep s first end n total found out₀ pairs₀ marks₀ links₀ out' pairs' marks' links' (d + m) p' (r + 1)
-  held_next f lp lm ll same =
-      record {
-        filling = f;
-        lent = lent-on c.lent lp lm ll;
-        past = omega (arith, c.past);
-        kept = λ e. rw ((same e).1, (same e).2) (c.kept e);
-        count =
-            λ e.
-            let i : r + 1 - first ≡ suc (r - first) = omega (arith, c.past) in
-            rw (i) (omega (arith, c.count e, (same e).0, found-more found (r - first)));
-      }
+-- there is room for role r in the scratch as it stands
+pub role-room : {f : Fields} {s t : Scratch} {total : ℕ} {found out₀ out : List ℕ} {d p r at from : ℕ} → RoomFor f s → SameRoom s t
+    → Held (is_some t.kept) f.roles.now.bytes.now f.roles.now.first f.roles.now.end f.mask_count total found out₀ out t.pairs.now t.marks.now d p r
+    → r < f.roles.now.end → at ≡ pick (is_some t.kept) (2 * d) 0 → from ≡ pick (is_some t.kept) ((r - f.roles.now.first) * (f.mask_count + 1)) 0
+    → PartRoom f.mask_count t.trees at from f.masks.now t.pairs.now t.marks.now t.links.now
+role-room q e c h ea ef = let z = room-stays e q in held-room c h ea ef z.room z.for-kept
 
-pub held_start : (keep : Bool) (s : List ℕ) (first end n total : ℕ) (found out pairs marks links : List ℕ) → first ≤ end → end ≤ 32
+pub held_next : {keep : Bool} {s : List ℕ} {first end n total : ℕ} {found out₀ out pairs marks : List ℕ} {d p r : ℕ}
+    → Held keep s first end n total found out₀ out pairs marks d p r → {out' pairs' marks' : List ℕ} {p' m : ℕ}
+    → Filling s first end total out₀ out' (d + m) p' (r + 1) → (keep ≡ true → (m ≡ get_or found (r - first) 0) × (pairs' ≡ pairs) × (marks' ≡ marks))
+    → Held keep s first end n total found out₀ out' pairs' marks' (d + m) p' (r + 1)
+held_next {first = first} {found = found} {r = r} c f same =
+    record {
+      filling = f;
+      past = omega (arith, c.past);
+      kept = λ e. rw ((same e).1, (same e).2) (c.kept e);
+      count =
+          λ e.
+          let i : r + 1 - first ≡ suc (r - first) = omega (arith, c.past) in
+          rw (i) (omega (arith, c.count e, (same e).0, found-more found (r - first)));
+    }
+
+pub held_start : (keep : Bool) (s : List ℕ) (first end n total : ℕ) (found out pairs marks : List ℕ) → first ≤ end → end ≤ 32
     → total ≡ length (rewrite_roles (rota_of s) first end).entries → (keep ≡ true → Kept s first (end - first) n found pairs marks)
-    → Held keep s first end n total found out pairs marks links out pairs marks links 0 (16 + 17 * total) first
+    → Held keep s first end n total found out out pairs marks 0 (16 + 17 * total) first
 unfolding found_to
-held_start keep s first end n total found out pairs marks links h k e q =
+held_start keep s first end n total found out pairs marks h k e q =
     record {
       filling = filling-start s first end total out h k e;
-      lent = lent-start pairs marks links;
       past = omega arith;
       kept = q;
       count = λ z. rw (let i : first - first ≡ 0 = omega arith in i) refl;

@@ -1,6 +1,6 @@
 -- A record's number joins the sets of the cells in which its pairs hold.
---     Cleared, clear_none, clear-more, clear-all     empty sets
---     Filling, fill_start .. fill-all                the cells of one pair
+--     cleared                                        empty sets
+--     Filling, fill_stop                             the cells of one pair
 --     record-well                                    what is known of a record
 --     Pairing, pair-start, pair-ready, pair-more     the pairs of one record, one after the other
 --     pairs-joined                                   all of them
@@ -8,16 +8,15 @@
 -- Assumes nothing.
 use Prim.Native.Nat.{ℕ, zero, suc, ◌+◌, ◌≤◌, ◌<◌}
 use mathlib.Core.Path.{◌≡◌, refl, sym, ap, ◌∙◌}
-use mathlib.Core.Logic.{◌⊎◌, inl, inr, ⊎_elim}
+use mathlib.Core.Logic.{⊎_elim}
 use mathlib.Core.Bool.{Bool, true, false, ◌||◌}
 use mathlib.Core.List.{List}
 use native.Mathlib.Nat.{not-suc-le-zero, le_of_suc-le-suc, eq-or-lt_of_le, le_antisymm, le_refl}
 use native.Mathlib.Numerals.{add-one}
 use native.Mathlib.Omega.{arith}
-use borrow.Author.Tests.{lt-leb, le-leb, lt-ltb, le-ltb}
+use borrow.Author.Tests.{le-leb, le-ltb}
 use lib.Dec.{eqb}
-use lib.ListN.{length, get_or, set, length-set}
-use lib.Seq.{get_or-set_same, get_or-set_other}
+use lib.ListN.{length, get_or, replicate, length-replicate, get_or-replicate}
 use Rattle.ground.specs.Believed.Choice.{pick}
 use Rattle.ground.specs.Believed.Search.{any_below}
 use Rattle.ground.proofs.BoolLaws.{lt-or-le}
@@ -37,38 +36,13 @@ use Rattle.hours_reader.proofs.RecordLaws.{pair-fine}
 use Rattle.rota.specs.Believed.RotaBytes.{header_length, cycle_of, hours_of}
 use Rattle.rota.specs.Believed.RotaRefusals.{rota_judged}
 use Rattle.rewrite_cuts.proofs.RecordLaws.{walk_fine}
-use Rattle.rewrite_grid.specs.Grid.{InCells, Joined}
+use Rattle.rewrite_grid.specs.Grid.{Rise, InCells, Joined}
 
-below_next : (j i : ℕ) → j < i + 1 → (j ≡ i) ⊎ (j < i)
-below_next j i m = eq-or-lt_of_le (le_of_suc-le-suc (rw add-one at m))
-
--- ---- empty sets
-pub record Cleared (n : ℕ) (sets₀ sets : List ℕ) (i : ℕ) : Type 0 where
-  pub below : i ≤ n
-  pub long : length sets ≡ length sets₀
-  pub each : (j : ℕ) → j < i → get_or sets j 0 ≡ 0
-
-pub clear_none : (n : ℕ) (sets : List ℕ) → Cleared n sets sets 0
-clear_none n sets = record { below = omega arith; long = refl; each = λ j h. absurd (not-suc-le-zero h) }
-
-module _ {n : ℕ} {sets₀ sets : List ℕ} {i : ℕ} (w : Cleared n sets₀ sets i) where
-  pub clear-more : n ≤ length sets₀ → i < n → Cleared n sets₀ (set sets i 0) (i + 1)
-  clear-more l h = record { below = omega arith; long = length-set sets i 0 ∙ w.long; each = λ j m. each j (below_next j i m) }
-    where
-      each : (j : ℕ) → (j ≡ i) ⊎ (j < i) → get_or (set sets i 0) j 0 ≡ 0
-      each j (inl e) = rw e (get_or-set_same sets i 0 0 (omega (arith, w.long)))
-      each j (inr m) = get_or-set_other sets i j 0 0 (λ e. absurd (omega arith)) ∙ w.each j m
-
-  pub clear-all : n ≤ i → (j : ℕ) → j < n → get_or sets j 0 ≡ 0
-  clear-all h j m = w.each j (omega arith)
+-- sets that are filled with 0
+pub cleared : (n : ℕ) (sets : List ℕ) → sets ≡ replicate n 0 → (j : ℕ) → j < length sets → get_or sets j 0 ≡ 0
+cleared n sets e j h = ap (λ (l : List ℕ). get_or l j 0) e ∙ get_or-replicate n j 0 0 (omega (arith, ap length e, length-replicate {A = ℕ} n 0))
 
 -- ---- the cells of one pair
-span-in : (o e x : ℕ) → o ≤ x → x < e → within o e x ≡ true
-span-in o e x h l = rw (le-leb o x h, lt-ltb x e l) refl
-
-span-before : (o e x : ℕ) → x < o → within o e x ≡ false
-span-before o e x h = rw (lt-leb o x h) refl
-
 span-after : (o e x : ℕ) → o ≤ e → e ≤ x → within o e x ≡ false
 span-after o e x h l = rw (le-leb o x (omega arith), le-ltb x e l) refl
 
@@ -84,54 +58,9 @@ pub record Filling (cells : List ℕ) (n o e k : ℕ) (sets₀ sets : List ℕ) 
   pub rest : (j : ℕ) → i ≤ j → get_or sets j 0 ≡ get_or sets₀ j 0
   pub behind : (j : ℕ) → j < i → get_or cells j 0 < e
 
-pub fill_start : (cells : List ℕ) (n o e k : ℕ) (sets : List ℕ) (i : ℕ) → i ≤ n → o ≤ e → ((j : ℕ) → j < i → get_or cells j 0 < o) → Filling cells n o e k sets sets i
-fill_start cells n o e k sets i l h f =
-    record {
-      below = l;
-      long = refl;
-      done = λ j m. sym (ap (λ (b : Bool). joined b (get_or sets j 0) k) (span-before o e (get_or cells j 0) (f j m)));
-      rest = λ j m. refl;
-      behind = λ j m. omega (arith, f j m);
-    }
-
 module _ {cells : List ℕ} {n o e k : ℕ} {sets₀ sets : List ℕ} {i : ℕ} (w : Filling cells n o e k sets₀ sets i) where
-  module _ (h : i < n) (l : get_or cells i 0 < e) where
-    behind_more : (j : ℕ) → j < i + 1 → get_or cells j 0 < e
-    behind_more j m = ⊎_elim (λ (q : j ≡ i). rw q l) (λ (q : j < i). w.behind j q) (below_next j i m)
-
-    pub fill-in : n ≤ length sets₀ → o ≤ get_or cells i 0 → (y : ℕ) → y ≡ insert (get_or sets i 0) k → Filling cells n o e k sets₀ (set sets i y) (i + 1)
-    fill-in long f y ey =
-        record {
-          below = omega arith;
-          long = length-set sets i y ∙ w.long;
-          done = λ j m. done j (below_next j i m);
-          rest = λ j m. get_or-set_other sets i j y 0 (λ q. absurd (omega arith)) ∙ w.rest j (omega arith);
-          behind = behind_more;
-        }
-      where
-        done : (j : ℕ) → (j ≡ i) ⊎ (j < i) → get_or (set sets i y) j 0 ≡ joined (within o e (get_or cells j 0)) (get_or sets₀ j 0) k
-        done j (inl q) =
-            rw q
-            (get_or-set_same sets i y 0 (omega (arith, w.long)) ∙ ey ∙ ap (λ (x : ℕ). insert x k) (w.rest i (le_refl i))
-            ∙ sym (ap (λ (b : Bool). joined b (get_or sets₀ i 0) k) (span-in o e (get_or cells i 0) f l)))
-        done j (inr m) = get_or-set_other sets i j y 0 (λ q. absurd (omega arith)) ∙ w.done j m
-
-    pub fill-out : get_or cells i 0 < o → Filling cells n o e k sets₀ sets (i + 1)
-    fill-out f =
-        record {
-          below = omega arith;
-          long = w.long;
-          done = λ j m. done j (below_next j i m);
-          rest = λ j m. w.rest j (omega arith);
-          behind = behind_more;
-        }
-      where
-        done : (j : ℕ) → (j ≡ i) ⊎ (j < i) → get_or sets j 0 ≡ joined (within o e (get_or cells j 0)) (get_or sets₀ j 0) k
-        done j (inl q) = rw q (w.rest i (le_refl i) ∙ sym (ap (λ (b : Bool). joined b (get_or sets₀ i 0) k) (span-before o e (get_or cells i 0) f)))
-        done j (inr m) = w.done j m
-
   -- a cell at e or past it, and so are those after it
-  pub fill_stop : ((j : ℕ) → j < n → get_or cells j 0 < get_or cells (j + 1) 0) → o ≤ e → e ≤ get_or cells i 0 → Joined cells n k (within o e) sets₀ sets
+  pub fill_stop : Rise cells n → o ≤ e → e ≤ get_or cells i 0 → Joined cells n k (within o e) sets₀ sets
   fill_stop rise h l = record { each = λ j m. ⊎_elim (λ (q : j < i). w.done j q) (λ (q : i ≤ j). past j m q) (lt-or-le j i) }
     where
       up : (j : ℕ) → i ≤ j → j < n → get_or cells i 0 ≤ get_or cells j 0
@@ -144,12 +73,6 @@ module _ {cells : List ℕ} {n o e k : ℕ} {sets₀ sets : List ℕ} {i : ℕ} 
 
       past : (j : ℕ) → j < n → i ≤ j → get_or sets j 0 ≡ joined (within o e (get_or cells j 0)) (get_or sets₀ j 0) k
       past j m q = w.rest j q ∙ sym (ap (λ (b : Bool). joined b (get_or sets₀ j 0) k) (span-after o e (get_or cells j 0) h (omega (arith, up j q m))))
-
-  pub fill-all : n ≤ i → Joined cells n k (within o e) sets₀ sets
-  fill-all h = record { each = λ j m. w.done j (omega arith) }
-
-  pub fill-behind : n ≤ i → (j : ℕ) → j < n → get_or cells j 0 < e
-  fill-behind h j m = w.behind j (omega arith)
 
 -- ---- one test, then another
 twice : (x k : ℕ) → insert (insert x k) k ≡ insert x k

@@ -22,6 +22,10 @@ field_mask c dates pairs b e o f = pick (ltb (first_in c b o f) e) (insert (inte
 abbrev pub gap_at : List ℕ → ℕ → Gap
 gap_at l k = record { low = get_or l k 0; high = get_or l (k + 1) 0 }
 
+-- each of the first n values of an array is less than the next
+abbrev pub Rise : List ℕ → ℕ → Type 0
+Rise l n = (k : ℕ) → k < n → get_or l k 0 < get_or l (k + 1) 0
+
 -- for each of the first n cells, the records whose pairs hold in it
 pub record InCells (s : List ℕ) (h : ℕ) (cells : List ℕ) (n : ℕ) (pairs : List ℕ) : Type 0 where
   pub each : (j : ℕ) → j < n → get_or pairs j 0 ≡ records_that s (header_length s) h (pairs_hold (get_or cells j 0))
@@ -38,7 +42,7 @@ mask_in c dates b e cells pairs j = field_mask c dates (get_or pairs j 0) b e (g
 pub record Cuts (l a : List ℕ) (n top : ℕ) : Type 0 where
   pub are : take (n + 1) a ≡ l
   pub long : n < length a
-  pub rise : (k : ℕ) → k < n → get_or a k 0 < get_or a (k + 1) 0
+  pub rise : Rise a n
   pub most : (k : ℕ) → k ≤ n → get_or a k 0 ≤ top
 
 -- what the masks are made from: the cuts of an accepted rota, and for each cell the records whose pairs hold in it

@@ -4,11 +4,11 @@ use Prim.Native.Nat.{ℕ, zero, suc, ◌+◌, ◌*◌, ◌≤◌, ◌<◌}
 use mathlib.Core.Path.{◌≡◌, refl, sym, ◌∙◌, ap, subst}
 use mathlib.Core.Bool.{Bool, true, false}
 use mathlib.Core.Logic.{⊎_elim, ◌⊎◌, inl, inr}
-use mathlib.Core.List.{List}
+use mathlib.Core.List.{List, ◌++◌}
 use native.Mathlib.Omega.{arith}
 use lib.Dec.{eqb}
-use lib.ListN.{length, get_or, set, length-set}
-use lib.Seq.{get_or-set_same, get_or-set_other}
+use lib.ListN.{length, get_or, take, drop, set, replicate, length-set, length-replicate, get_or-replicate, get_or-append}
+use lib.Seq.{length-take-le, get_or-set_same, get_or-set_other}
 use borrow.Author.Count.{below_more}
 use borrow.Author.Tests.{eqb-true, eqb-false}
 use Rattle.ground.proofs.BoolLaws.{lt-or-le}
@@ -30,10 +30,13 @@ index-none w links pairs a b z =
       leads = λ k h. absurd (omega arith);
     }
 
--- one root less
-pub cleared : (links : List ℕ) (i : ℕ) → i < length links → ((h : ℕ) → h < i → get_or links h 0 ≡ 0) → (h : ℕ) → h < i + 1 → get_or (set links i 0) h 0 ≡ 0
-cleared links i l z =
-    below_more (λ (h : ℕ). get_or (set links i 0) h 0 ≡ 0) i (λ h q. get_or-set_other links i h 0 0 (λ e. omega arith) ∙ z h q) (get_or-set_same links i 0 0 l)
+-- the first w places, once they are filled with 0
+pub cleared : (w : ℕ) (links part : List ℕ) → w ≤ length links → part ≡ replicate (length (take w links)) 0 → (h : ℕ) → h < w → get_or (part ++ drop w links) h 0 ≡ 0
+cleared w links part l e h q =
+    let k : h < length (take w links) = omega (arith, length-take-le w links l) in
+    rw e
+    (get_or-append (replicate (length (take w links)) 0) (drop w links) 0 h (omega (arith, length-replicate {A = ℕ} (length (take w links)) 0))
+    ∙ get_or-replicate (length (take w links)) h 0 0 k)
 
 -- with u and p as pair d, linked at `hook`
 module _ (w : ℕ) (pos : 0 < w) (d : ℕ) (pairs : List ℕ) (u p : ℕ) (hp : 2 * d + 1 < length pairs) {links : List ℕ} {a b hook : ℕ} (x : Indexed w d pairs links a b)

@@ -43,11 +43,7 @@ pub fn clear(links: &mut [u16], w: usize)
     requires { w ≤ length links.old }
     ensures { (pairs : List ℕ) (a b : ℕ) → Indexed w 0 pairs links.new a b }
 {
-    let mut i = 0;
-    while i < w {
-        links[i] = 0;
-        i += 1;
-    }
+    links[..w].fill(0);
 }
 
 // Where u and p stand among the first d pairs; where they are not there yet they become the next one, d.
@@ -67,28 +63,29 @@ pub fn enter(
     ensures { Entered source (entry_made source u p) d pairs.old pairs.new result
         × Indexed w (after d result) pairs.new links.new a b }
 {
-    let f = rewrite_trees::find(pairs, links, w, a, b, d, u, p);
-    let k = f.place;
-    if k < d {
-        return k;
+    match rewrite_trees::find(pairs, links, w, a, b, d, u, p) {
+        Ok(k) => k,
+        Err(hook) => {
+            add(pairs, links, w, a, b, d, u, p, hook);
+            d
+        }
     }
-    add(pairs, links, w, a, b, d, u, p, f.hook);
-    d
 }
 
-// Where m stands among the first d keys; where it is not there yet it becomes the next one, d.
+// Where m stands among the first d keys; where it is not there yet it becomes the next one, d. It is apart from `enter`, since it stores one number in an
+// array of another type: a function over both would be no shorter than this match.
 pub fn enter_key(keys: &mut [u32], links: &mut [u16], w: usize, d: usize, m: u32) -> usize
     requires d_in_bounds { (d < length keys.old) × (w + 2 * d + 1 < length links.old) × (d < 33345) × (0 < w) × (w ≤ 65536) }
     requires indexed { Indexed w d (key_pairs keys.old) links.old 4294967295 0 }
     ensures { KeyEntered m d keys.old keys.new result
         × Indexed w (after d result) (key_pairs keys.new) links.new 4294967295 0 }
 {
-    let f = rewrite_trees::find_key(keys, links, w, d, m);
-    let place = f.place;
-    if place < d {
-        return place;
+    match rewrite_trees::find_key(keys, links, w, d, m) {
+        Ok(place) => place,
+        Err(hook) => {
+            keys[d] = m;
+            link(links, w, d, hook);
+            d
+        }
     }
-    keys[d] = m;
-    link(links, w, d, f.hook);
-    d
 }

@@ -1,6 +1,6 @@
 -- The loop over the eras: the stretches and the distinct masks of the fields of the eras passed.
 --     passed_none, passed-more, passed-all    at the start, after one era more, and at the end
---     row_room, end-room                      there is room for the stretches of the next era
+--     end-room                                there is room for the stretches of the next era
 -- Assumes nothing.
 use Prim.Native.Nat.{ℕ, ◌+◌, ◌*◌, ◌≤◌, ◌<◌}
 use mathlib.Core.Path.{◌≡◌, refl, sym, ◌∙◌, ap, ap₂}
@@ -8,7 +8,7 @@ use mathlib.Core.Logic.{⊎_elim}
 use mathlib.Core.List.{List, [], ◌∷◌, ◌++◌}
 use native.Mathlib.Nat.{le_antisymm, mul-le-mul_right}
 use native.Mathlib.Omega.{arith}
-use lib.ListN.{length, take, get_or, set, length-append, length-set}
+use lib.ListN.{length, get_or, set, length-append, length-set}
 use lib.Seq.{get_or-set_same, get_or-set_other}
 use Rattle.ground.specs.Believed.Sequence.{list_of}
 use Rattle.ground.proofs.BoolLaws.{lt-or-le}
@@ -21,7 +21,9 @@ use Rattle.rewrite_grid.specs.Grid.{mask_in, masks_to, Ready}
 use Rattle.rewrite_grid.specs.Stretches.{field_kinds, Stretched}
 use Rattle.rewrite_grid.proofs.LaidLaws.{masks-none, masks-more, masks-all}
 use Rattle.rewrite_grid.proofs.StretchLaws.{kinds-none, kinds-same, ends-rise}
-use Rattle.rewrite_masks.specs.Kinds.{masks_of, Held, RowRoom, Laid, Room, Numbered}
+use Rattle.rewrite_masks.specs.Kinds.{masks_of, HeldBy, SamePlaces, Laid, Numbered}
+use Rattle.rewrite_masks.specs.declared.Masks.{Masks}
+use Rattle.rewrite_masks.proofs.RowLaws.{places-same, places-then}
 
 masks-append : (ds ms ns : List ℕ) → masks_from ds (ms ++ ns) ≡ masks_from (masks_from ds ms) ns
 unfolding masks_from
@@ -32,15 +34,6 @@ kinds-append : (ds ms ns : List ℕ) → kinds_from ds (ms ++ ns) ≡ kinds_from
 unfolding masks_from kinds_from
 kinds-append ds [] ns = refl
 kinds-append ds (m ∷ ms) ns = ap (λ (l : List ℕ). kind_of ds m ∷ l) (kinds-append (add_mask ds m) ms ns)
-
--- the scratch is as long as it was
-pub record Long (row₀ kinds₀ lens₀ ends₀ sets₀ links₀ row kinds lens ends sets links : List ℕ) : Type 0 where
-  pub of_row : length row ≡ length row₀
-  pub of-kinds : length kinds ≡ length kinds₀
-  pub of-lens : length lens ≡ length lens₀
-  pub of-ends : length ends ≡ length ends₀
-  pub of-sets : length sets ≡ length sets₀
-  pub of-links : length links ≡ length links₀
 
 -- ---- the stretches of no era, and of one more
 
@@ -57,8 +50,8 @@ stretched-none nc kinds lens ends l e =
     }
 
 module _ {i nc : ℕ} {kinds lens ends : List ℕ} (s : Stretched i nc kinds lens ends) {ds row : List ℕ} {end : ℕ} (kinds' lens' : List ℕ)
-    (laid : Laid ds row nc (get_or ends i 0) end kinds lens kinds' lens') where
-  stretched-more : length (take nc row) ≡ nc → end ≤ length kinds' → end ≤ length lens' → i + 1 < length ends
+    (laid : Laid ds row (get_or ends i 0) end kinds lens kinds' lens') where
+  stretched-more : length row ≡ nc → end ≤ length kinds' → end ≤ length lens' → i + 1 < length ends
       → Stretched (i + 1) nc kinds' lens' (set ends (i + 1) end)
   stretched-more lr lk ll le =
       record {
@@ -97,25 +90,26 @@ module _ {i nc : ℕ} {kinds lens ends : List ℕ} (s : Stretched i nc kinds len
       all : (e : ℕ) → e ≡ i + 1 → length (field_kinds kinds' lens' (get_or (set ends (i + 1) end) e 0)) ≡ e * nc
       all e q =
           rw q
-          (ap (λ (k : ℕ). length (field_kinds kinds' lens' k)) here ∙ ap length laid.kinds-are ∙ length-append (field_kinds kinds lens (get_or ends i 0)) (kinds_from ds (take nc row))
-          ∙ ap₂ (λ (a b : ℕ). a + b) (s.whole i (omega arith)) (kinds-length ds (take nc row) ∙ lr) ∙ omega arith)
+          (ap (λ (k : ℕ). length (field_kinds kinds' lens' k)) here ∙ ap length laid.kinds-are ∙ length-append (field_kinds kinds lens (get_or ends i 0)) (kinds_from ds row)
+          ∙ ap₂ (λ (a b : ℕ). a + b) (s.whole i (omega arith)) (kinds-length ds row ∙ lr) ∙ omega arith)
 
 -- ---- the loop
 
-pub record Passed (s eras : List ℕ) (ne nc w : ℕ) (kinds lens ends sets links : List ℕ) (i first d : ℕ) : Type 0 where
+pub record Passed (s eras : List ℕ) (ne nc : ℕ) (kinds lens ends : List ℕ) (m₀ m : Masks) (i first : ℕ) : Type 0 where
   pub below : i ≤ ne
   pub stretched : Stretched i nc kinds lens ends
   pub place : first ≡ get_or ends i 0
   pub early : first ≤ i * nc
   pub kinds-so : field_kinds kinds lens first ≡ kinds_from [] (masks_to s eras i)
-  pub masks-so : masks_in sets d ≡ masks_from [] (masks_to s eras i)
-  pub held : Held w d sets links
-  pub most : d ≤ i * nc
+  pub masks-so : masks_in m.sets.now m.count ≡ masks_from [] (masks_to s eras i)
+  pub held : HeldBy m
+  pub most : m.count ≤ i * nc
+  pub same : SamePlaces m₀ m
 
-pub passed_none : (s eras : List ℕ) (ne nc w : ℕ) (kinds lens ends sets links : List ℕ) → 0 < length ends → Held w 0 sets links
-    → Passed s eras ne nc w kinds lens (set ends 0 0) sets links 0 0 0
+pub passed_none : (s eras : List ℕ) (ne nc : ℕ) (kinds lens ends : List ℕ) (m : Masks) → 0 < length ends → HeldBy m → m.count ≡ 0
+    → Passed s eras ne nc kinds lens (set ends 0 0) m m 0 0
 unfolding kinds_from masks_from masks_in
-passed_none s eras ne nc w kinds lens ends sets links l h =
+passed_none s eras ne nc kinds lens ends m l h e0 =
     let e : get_or (set ends 0 0) 0 0 ≡ 0 = get_or-set_same ends 0 0 0 l in
     record {
       below = omega arith;
@@ -123,66 +117,49 @@ passed_none s eras ne nc w kinds lens ends sets links l h =
       place = sym e;
       early = omega arith;
       kinds-so = kinds-none kinds lens ∙ sym (ap (kinds_from []) (masks-none s eras));
-      masks-so = rw (masks-none s eras) refl;
+      masks-so = rw (masks-none s eras, e0) refl;
       held = h;
       most = omega arith;
+      same = places-same m;
     }
 
-module _ {s eras : List ℕ} {ne nc w : ℕ} {kinds lens ends sets links : List ℕ} {i first d : ℕ}
-    (p : Passed s eras ne nc w kinds lens ends sets links i first d) where
+module _ {s eras : List ℕ} {ne nc : ℕ} {kinds lens ends : List ℕ} {m₀ m : Masks} {i first : ℕ} (p : Passed s eras ne nc kinds lens ends m₀ m i first) where
   next_place : i < ne → i * nc + nc ≤ ne * nc
   next_place h = omega (arith, mul-le-mul_right nc h)
-
-  pub row_room : (row₀ kinds₀ lens₀ ends₀ sets₀ links₀ row : List ℕ) → i < ne → nc ≤ length row₀ → Room (ne * nc) ne w kinds₀ lens₀ ends₀ sets₀ links₀
-      → Long row₀ kinds₀ lens₀ (set ends₀ 0 0) sets₀ links₀ row kinds lens ends sets links → RowRoom nc d first w row kinds lens sets links
-  row_room row₀ kinds₀ lens₀ ends₀ sets₀ links₀ row h lr r l =
-      let z = next_place h in
-      record {
-        for-row = omega (arith, l.of_row);
-        for-kinds = omega (arith, p.early, l.of-kinds, r.for-kinds);
-        for-lens = omega (arith, p.early, l.of-lens, r.for-lens);
-        few = omega (arith, p.most, r.few);
-        for-sets = omega (arith, p.most, l.of-sets, r.for-sets);
-        for-links = omega (arith, p.most, l.of-links, r.for-links);
-        some = r.some;
-        most = r.most;
-      }
 
   -- where the next stretches end is in an array that was long enough
   pub end-room : {end long₀ long long' : ℕ} → i < ne → end ≤ first + nc → ne * nc ≤ long₀ → long ≡ long₀ → long' ≡ long → end ≤ long'
   end-room h e r l l' = omega (arith, p.early, next_place h)
 
   module _ {cycle from h : ℕ} {cells held : List ℕ} (ready : Ready s cycle from h eras ne cells nc held) where
-    pub passed-more : {dates : ℕ} (row kinds' lens' sets' links' : List ℕ) (end d' : ℕ) → i < ne
-        → dates ≡ records_that s (header_length s) h (dates_hold (get_or eras i 0))
-        → take (0 + nc) row ≡ list_of nc (mask_in cycle dates (get_or eras i 0) (get_or eras (i + 1) 0) cells held)
-        → Laid (masks_in sets d) row nc first end kinds lens kinds' lens' → masks_in sets' d' ≡ masks_from (masks_in sets d) (take nc row) → Held w d' sets' links'
-        → d' ≤ d + nc → end ≤ length kinds' → end ≤ length lens' → i + 1 < length ends
-        → Passed s eras ne nc w kinds' lens' (set ends (i + 1) end) sets' links' (i + 1) end d'
-    passed-more {dates} row kinds' lens' sets' links' end d' hi ed er laid em held' few lk ll le =
+    pub passed-more : {dates : ℕ} {row : List ℕ} (kinds' lens' : List ℕ) (m' : Masks) (end : ℕ) → i < ne → dates ≡ records_that s (header_length s) h (dates_hold (get_or eras i 0))
+        → row ≡ list_of nc (mask_in cycle dates (get_or eras i 0) (get_or eras (i + 1) 0) cells held) → Laid (masks_in m.sets.now m.count) row first end kinds lens kinds' lens'
+        → masks_in m'.sets.now m'.count ≡ masks_from (masks_in m.sets.now m.count) row → HeldBy m' → m'.count ≤ m.count + length row → SamePlaces m m'
+        → end ≤ length kinds' → end ≤ length lens' → i + 1 < length ends
+        → Passed s eras ne nc kinds' lens' (set ends (i + 1) end) m₀ m' (i + 1) end
+    passed-more {dates} {row} kinds' lens' m' end hi ed er laid em held' few same lk ll le =
         record {
           below = omega arith;
-          stretched = stretched-more p.stretched kinds' lens' (rw p.place at laid) (ap length row_is ∙ list_of-length nc _) lk ll le;
+          stretched = stretched-more p.stretched kinds' lens' (rw p.place at laid) long lk ll le;
           place = sym (get_or-set_same ends (i + 1) end 0 le);
-          early = omega (arith, p.early, laid.most);
-          kinds-so =
-              laid.kinds-are ∙ ap₂ ◌++◌ p.kinds-so (ap₂ kinds_from p.masks-so row_is) ∙ sym (kinds-append [] (masks_to s eras i) masks)
-              ∙ ap (kinds_from []) (sym more);
-          masks-so = em ∙ ap₂ masks_from p.masks-so row_is ∙ sym (masks-append [] (masks_to s eras i) masks) ∙ ap (masks_from []) (sym more);
+          early = omega (arith, p.early, laid.most, long);
+          kinds-so = laid.kinds-are ∙ ap₂ ◌++◌ p.kinds-so (ap₂ kinds_from p.masks-so er) ∙ sym (kinds-append [] (masks_to s eras i) masks) ∙ ap (kinds_from []) (sym more);
+          masks-so = em ∙ ap₂ masks_from p.masks-so er ∙ sym (masks-append [] (masks_to s eras i) masks) ∙ ap (masks_from []) (sym more);
           held = held';
-          most = omega (arith, p.most);
+          most = omega (arith, p.most, long);
+          same = places-then p.same same;
         }
       where
         masks : List ℕ
         masks = list_of nc (mask_in cycle dates (get_or eras i 0) (get_or eras (i + 1) 0) cells held)
 
-        row_is : take nc row ≡ masks
-        row_is = let e : nc ≡ 0 + nc = omega arith in ap (λ (k : ℕ). take k row) e ∙ er
+        long : length row ≡ nc
+        long = ap length er ∙ list_of-length nc _
 
         more : masks_to s eras (i + 1) ≡ masks_to s eras i ++ masks
         more = masks-more s ready.accepted eras cells ne nc ready.era-cuts ready.cell_cuts i hi ready.cycle-is ready.hours-are ed ready.in_cells
 
-    pub passed-all : ne ≤ i → Numbered s ne nc d kinds lens ends sets
+    pub passed-all : ne ≤ i → Numbered s ne nc m.count kinds lens ends m.sets.now
     unfolding masks_of
     passed-all h =
         let q : i ≡ ne = le_antisymm p.below h in

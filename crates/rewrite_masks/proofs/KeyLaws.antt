@@ -1,6 +1,6 @@
 -- The kind of one more mask, by its hours among those of the distinct masks.
 --     masks-stretch, kinds-stretch  the masks and the kinds with one mask some times over
---     found_none, found-entered     no minute, and a mask whose hours the index entered
+--     found-entered                 a mask whose hours the index entered
 -- Assumes nothing.
 use Prim.Native.Nat.{ℕ, zero, suc, ◌+◌, ◌%◌, ◌^◌, ◌≤◌, ◌<◌}
 use mathlib.Core.Path.{◌≡◌, refl, sym, ◌∙◌, ap, ap₂, subst}
@@ -23,10 +23,8 @@ use Rattle.rewrite_rules.specs.Believed.Distinct.{add_new, place_of}
 use Rattle.rewrite_rules.specs.Kinds.{add_mask, masks_from, kind_of, kinds_from, masks_in}
 use Rattle.rewrite_rules.proofs.TableDistinct.{add-there, add-found, place-add, place-below}
 use Rattle.rewrite_index.specs.Entries.{after, KeyEntered}
-use Rattle.rewrite_trees.specs.Tree.{Indexed}
 use Rattle.rewrite_trees.proofs.KeyLaws.{users-key, key-small}
 use Rattle.rewrite_masks.specs.Kinds.{Told, Held, Found}
-use Rattle.rewrite_masks.specs.declared.Kind.{Kind}
 use Rattle.rewrite_masks.proofs.MaskLaws.{bare-is}
 
 -- ---- numbers by a function that tells them apart
@@ -98,9 +96,6 @@ module _ (ds : List ℕ) (m : ℕ) where
 
 -- ---- one mask more
 
-abbrev kind_made : ℕ → ℕ → Kind
-kind_made kind masks = record { kind = kind; masks = masks }
-
 abbrev with_always : ℕ → ℕ
 with_always x = insert x 32
 
@@ -121,10 +116,6 @@ held-apart d sets x room y hy =
     (λ k h. always-apart (get_or sets k 0) y (key-small (get_or sets k 0) (rw (users-key sets k) at (x.users-within k h))) hy))
 
 module _ (m d : ℕ) (sets : List ℕ) where
-  -- no minute
-  pub found_none : m ≡ 0 → Found m d sets sets (kind_made 0 d)
-  found_none e = rw e (record { kind-is = refl; masks-then = refl; most = omega arith; small = omega arith })
-
   -- one whose hours the index entered
   module _ {w : ℕ} {links : List ℕ} (held : Held w d sets links) (room : d ≤ length sets) (ne : m ≡ 0 → ⊥) (told : Told m) (k : ℕ) (sets' : List ℕ)
       (x : KeyEntered (m % 4294967296) d sets sets' k) where
@@ -145,7 +136,7 @@ module _ (m d : ℕ) (sets : List ℕ) where
         ap (map with_always) x.keys-then ∙ sym (add-by with_always hours (take d sets) apart)
         ∙ ap (add_new eqb (map with_always (take d sets))) (told ne)
 
-    pub found-entered : (n : ℕ) → n ≡ after d k → Found m d sets sets' (kind_made (k + 1) n)
+    pub found-entered : (n : ℕ) → n ≡ after d k → Found m d sets sets' (k + 1) n
     found-entered n e =
         record {
           kind-is = add-one k ∙ ap suc place-then ∙ ap (λ (b : Bool). pick b 0 (suc (place_of eqb m (masks_in sets d)))) (sym (ne_eqb m 0 ne));
@@ -168,6 +159,3 @@ after-old d k h = rw (ne_eqb k d (λ e. omega arith))
 
 pub after-new : (d k : ℕ) → k ≤ d → d ≤ k → d + 1 ≡ after d k
 after-new d k h l = let e : k ≡ d = omega arith in rw (eq-eqb k d e)
-
-pub held_same : {w n k a b : ℕ} {pairs links : List ℕ} → n ≡ k → Indexed w k pairs links a b → Indexed w n pairs links a b
-held_same e x = rw e x

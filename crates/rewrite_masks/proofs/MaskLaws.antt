@@ -10,15 +10,14 @@ use mathlib.Core.List.{List}
 use native.Mathlib.Numerals.{unary_clauses}
 use native.Mathlib.Omega.{arith}
 use lib.Dec.{eqb, ltb}
-use lib.ListN.{get_or, take}
+use lib.ListN.{length, get_or}
 use lib.Pow.{pow_mono}
-use lib.Seq.{get_or-take}
 use borrow.Author.Tests.{eq-eqb, ne_eqb, lt-ltb, le-ltb}
 use Rattle.ground.specs.Believed.Choice.{pick}
 use Rattle.ground.specs.Believed.Search.{one}
 use Rattle.ground.specs.Believed.Sequence.{list_of}
 use Rattle.ground.proofs.BoolLaws.{lt-or-le}
-use Rattle.ground.proofs.SequenceLaws.{get-list_of}
+use Rattle.ground.proofs.SequenceLaws.{list_of-length, get-list_of}
 use Rattle.bitset.specs.Believed.Sets.{has, set_of, insert, intersection}
 use Rattle.bitset.proofs.SetLaws.{ext, has-past, has-set_of, set_of-lt, set_of-has, intersection-set_of}
 use Rattle.minutes.specs.First.{first_in}
@@ -77,12 +76,13 @@ hours-small s from h f g few =
     (omega (arith, set_of-lt h (λ k. f (hours_at s (record_at s from k)) && g (hours_at s (record_at s from k))), pow_mono few))
 
 pub row_told : {s : List ℕ} {cycle from h : ℕ} {eras : List ℕ} {ne : ℕ} {cells : List ℕ} {nc : ℕ} {held : List ℕ} → Ready s cycle from h eras ne cells nc held
-    → {dates : ℕ} (b e : ℕ) (row : List ℕ) → dates ≡ records_that s (header_length s) h (dates_hold b) → take (0 + nc) row ≡ list_of nc (mask_in cycle dates b e cells held)
-    → (c : ℕ) → c < nc → Told (get_or row c 0)
+    → {dates : ℕ} (b e : ℕ) (row : List ℕ) → dates ≡ records_that s (header_length s) h (dates_hold b) → row ≡ list_of nc (mask_in cycle dates b e cells held)
+    → (c : ℕ) → c < length row → Told (get_or row c 0)
 unfolding mask_in field_mask
-row_told {s} {cycle} {h = h} {cells = cells} {nc} {held} ready {dates} b e row ed er c hc =
+row_told {s} {cycle} {h = h} {cells = cells} {nc} {held} ready {dates} b e row ed er c l =
+    let hc : c < nc = omega (arith, ap length er, list_of-length nc (mask_in cycle dates b e cells held)) in
     let q : get_or row c 0 ≡ mask_in cycle dates b e cells held c
-    = sym (get_or-take (0 + nc) row c 0 (omega arith)) ∙ ap (λ (l : List ℕ). get_or l c 0) er ∙ get-list_of nc (mask_in cycle dates b e cells held) 0 c hc in
+    = ap (λ (l : List ℕ). get_or l c 0) er ∙ get-list_of nc (mask_in cycle dates b e cells held) 0 c hc in
     subst Told (sym q)
     (mask-told (ltb (first_in cycle b (get_or cells c 0) (get_or cells (c + 1) 0)) e) (intersection dates (get_or held c 0))
     (rw (ed, ready.in_cells.each c hc)

@@ -7,105 +7,91 @@ ghost use Rattle.std.specs.Prelude.{◌≡◌, ℕ, ◌+◌, ◌*◌, ◌≤◌,
 ghost use Rattle.rota.specs.Inside.{Located};
 ghost use Rattle.rewrite_rules.specs.Kinds.{masks_from, masks_in};
 ghost use Rattle.rewrite_grid.specs.Grid.{Parted, Ready};
-ghost use Rattle.rewrite_masks.specs.Kinds.{Told, Held, Found, RowRoom, Room, Laid, Numbered};
+ghost use Rattle.rewrite_masks.specs.Kinds.{Told, HeldBy, SamePlaces, Found, RowRoom, Room, Laid, Numbered};
 
 use rota::Layout;
 
-// The kind of a mask, and how many distinct masks there are with it.
-#[derive(Clone, Copy)]
-pub struct Kind {
-    pub kind: usize,
-    pub masks: usize,
+// The distinct masks so far, in the first places of `sets`, and an index of them. They stand without the bit for always, which each of them has: so 32
+// bits tell them apart.
+#[derive(Drop)]
+struct Masks<'a> {
+    sets: &'a mut [u32],
+    links: &'a mut [u16],
+    trees: usize,
+    count: usize,
 }
 
-// Where the stretches of an era end, and how many distinct masks there are then.
-#[derive(Clone, Copy)]
-pub struct EraNumbered {
-    pub end: usize,
-    pub masks: usize,
+impl Masks<'_> {
+    // The kind of mask m; where m has a minute, it is one of the distinct masks then.
+    fn kind_of(&mut self, m: u64) -> usize
+        requires room { (self.old.count < length self.old.sets.now) × (self.old.trees + 2 * self.old.count + 1 < length self.old.links.now) × (self.old.count < 33345) × (0 < self.old.trees) × (self.old.trees ≤ 65536) }
+        requires held { HeldBy self.old × Told m }
+        ensures found { Found m self.old.count self.old.sets.now self.new.sets.now result self.new.count }
+        ensures held { HeldBy self.new }
+        ensures same { SamePlaces self.old self.new }
+    {
+        if m == 0 {
+            return 0;
+        }
+        let k = rewrite_index::enter_key(
+            self.sets,
+            self.links,
+            self.trees,
+            self.count,
+            (m % 4294967296) as u32,
+        );
+        if k == self.count {
+            self.count += 1;
+        }
+        k + 1
+    }
 }
 
-// How many fields from c on, of the n fields of an era with these masks, have the mask of field c: one at least, and at most 255, so that the number
-// fits a byte.
-fn stretch(row: &[u64], c: usize, n: usize) -> usize
-    requires { (c < n) × (n ≤ length row.now) }
-    ensures { (0 < result) × (result ≤ 255) × (c + result ≤ n) × (take result (drop c row.now) ≡ replicate result (get_or row.now c 0)) }
+// How many fields from c on, of an era whose fields have these masks, have the mask of field c: one at least, and at most 255, so that the number fits a
+// byte.
+fn stretch(row: &[u64], c: usize) -> usize
+    requires { c < length row.now }
+    ensures { (0 < result) × (result ≤ 255) × (c + result ≤ length row.now) × (take result (drop c row.now) ≡ replicate result (get_or row.now c 0)) }
 {
     let m = row[c];
-    let mut most = n - c;
-    if 255 < most {
-        most = 255;
-    }
-    let mut l = 1;
-    while l < most {
+    let most = (row.len() - c).min(255);
+    for l in 1..most {
         if row[c + l] != m {
             return l;
         }
-        l += 1;
     }
-    l
+    most
 }
 
-// The kind of mask m. The distinct masks stand without the bit for always, which each of them has: so 32 bits tell them apart.
-fn kind_of(m: u64, sets: &mut [u32], links: &mut [u16], w: usize, d: usize) -> Kind
-    requires d_in_bounds { (d < length sets.old) × (w + 2 * d + 1 < length links.old) × (d < 33345) × (0 < w) × (w ≤ 65536) }
-    requires held { Held w d sets.old links.old × Told m }
-    ensures { Found m d sets.old sets.new result × Held w result.masks sets.new links.new }
-{
-    if m == 0 {
-        return Kind { kind: 0, masks: d };
-    }
-    let k = rewrite_index::enter_key(sets, links, w, d, (m % 4294967296) as u32);
-    if k < d {
-        return Kind {
-            kind: k + 1,
-            masks: d,
-        };
-    }
-    Kind {
-        kind: k + 1,
-        masks: d + 1,
-    }
-}
-
-// The stretches of an era whose n fields have these masks, at `first` and the places after it.
+// The stretches of an era whose fields have these masks, at `first` and the places after it: where they end.
 fn number_row(
     row: &[u64],
-    n: usize,
     kinds: &mut [u16],
     lens: &mut [u8],
     first: usize,
-    sets: &mut [u32],
-    links: &mut [u16],
-    w: usize,
-    d: usize,
-) -> EraNumbered
-    requires row_room { RowRoom n d first w row.now kinds.old lens.old sets.old links.old }
-    requires held { Held w d sets.old links.old × ((c : ℕ) → c < n → Told (get_or row.now c 0)) }
-    ensures { Laid (masks_in sets.old d) row.now n first result.end kinds.old lens.old kinds.new lens.new
-        × (masks_in sets.new result.masks ≡ masks_from (masks_in sets.old d) (take n row.now))
-        × Held w result.masks sets.new links.new × (result.masks ≤ d + n) }
+    masks: &mut Masks<'_>,
+) -> usize
+    requires room { RowRoom (length row.now) first kinds.old lens.old masks.old }
+    requires held { HeldBy masks.old × ((c : ℕ) → c < length row.now → Told (get_or row.now c 0)) }
+    ensures laid { Laid (masks_in masks.old.sets.now masks.old.count) row.now first result kinds.old lens.old kinds.new lens.new }
+    ensures counted { masks_in masks.new.sets.now masks.new.count ≡ masks_from (masks_in masks.old.sets.now masks.old.count) row.now }
+    ensures few { masks.new.count ≤ masks.old.count + length row.now }
+    ensures held { HeldBy masks.new }
+    ensures same { SamePlaces masks.old masks.new }
 {
-    let mut count = d;
     let mut j = first;
     let mut c = 0;
-    while c < n {
-        let m = row[c];
-        let l = stretch(row, c, n);
-        let k = kind_of(m, sets, links, w, count);
-        kinds[j] = k.kind as u16;
+    while c < row.len() {
+        let l = stretch(row, c);
+        kinds[j] = masks.kind_of(row[c]) as u16;
         lens[j] = l as u8;
-        count = k.masks;
         j += 1;
         c += l;
     }
-    EraNumbered {
-        end: j,
-        masks: count,
-    }
+    j
 }
 
-// The stretches of all fields, eras in turn: those of era i stand from ends[i] to before ends[i + 1]. How many distinct masks there are.
+// The stretches of all fields, eras in turn: those of era i stand from ends[i] to before ends[i + 1]. There are as many cells as sets of them in `held`.
 fn number_all(
     s: &[u8],
     cycle: u32,
@@ -114,39 +100,32 @@ fn number_all(
     eras: &[u32],
     ne: usize,
     cells: &[u32],
-    nc: usize,
     held: &[u64],
     row: &mut [u64],
     kinds: &mut [u16],
     lens: &mut [u8],
     ends: &mut [usize],
-    sets: &mut [u32],
-    links: &mut [u16],
-    w: usize,
-) -> usize
-    requires ready { Ready s.now cycle from h eras.now ne cells.now nc held.now × (nc ≤ length row.old) }
-    requires room { Room (ne * nc) ne w kinds.old lens.old ends.old sets.old links.old × Held w 0 sets.old links.old }
-    ensures { Numbered s.now ne nc result kinds.new lens.new ends.new sets.new }
+    masks: &mut Masks<'_>,
+)
+    requires ready { Ready s.now cycle from h eras.now ne cells.now (length held.now) held.now × (length row.old ≡ length held.now) }
+    requires room { Room (ne * length held.now) ne masks.old.trees kinds.old lens.old ends.old masks.old.sets.now masks.old.links.now × HeldBy masks.old × (masks.old.count ≡ 0) }
+    ensures numbered { Numbered s.now ne (length held.now) masks.new.count kinds.new lens.new ends.new masks.new.sets.now }
+    ensures same { SamePlaces masks.old masks.new }
 {
     ends[0] = 0;
-    let mut i = 0;
     let mut first = 0;
-    let mut d = 0;
-    while i < ne {
+    for i in 0..ne {
         let b = eras[i];
         let e = eras[i + 1];
         let dates = rewrite_grid::era_mask(s, from, h, b);
-        rewrite_grid::era_masks(cycle, dates, b, e, cells, nc, held, row, 0);
-        let r = number_row(row, nc, kinds, lens, first, sets, links, w, d);
-        first = r.end;
-        d = r.masks;
-        i += 1;
-        ends[i] = first;
+        rewrite_grid::era_masks(cycle, dates, b, e, cells, held, row);
+        first = number_row(row, kinds, lens, first, masks);
+        ends[i + 1] = first;
     }
-    d
 }
 
-// Numbers the fields of a rota that is divided so: their kinds by stretches, and the distinct masks without the bit for always. How many these are.
+// Numbers the fields of a rota that is divided so: their kinds by stretches, and the distinct masks without the bit for always. How many these are. Kinds
+// and lengths are two arrays, since a kind takes two bytes and a length one.
 pub fn number(
     s: &[u8],
     l: Layout,
@@ -169,10 +148,29 @@ pub fn number(
 {
     let n = l.counts;
     let h = n.hours as usize;
-    rewrite_grid::cell_masks(s, l.hours_at, h, cells, nc, held);
+    let held = &mut held[..nc];
+    rewrite_grid::cell_masks(s, l.hours_at, h, cells, held);
     rewrite_index::clear(links, w);
+    let mut masks = Masks {
+        sets,
+        links,
+        trees: w,
+        count: 0,
+    };
     number_all(
-        s, n.cycle, l.hours_at, h, eras, ne, cells, nc, held, row, kinds, lens, ends, sets, links,
-        w,
-    )
+        s,
+        n.cycle,
+        l.hours_at,
+        h,
+        eras,
+        ne,
+        cells,
+        held,
+        &mut row[..nc],
+        kinds,
+        lens,
+        ends,
+        &mut masks,
+    );
+    masks.count
 }

@@ -1,28 +1,31 @@
--- What counting asks of the kinds and of the room to keep roles, and what its counts say of an area with less room.
+-- What counting asks of the room to keep roles, and what its counts say of an area with less room.
 -- Assumes nothing.
-use Prim.Native.Nat.{ℕ, ◌+◌, ◌*◌, ◌≤◌, ◌<◌}
-use mathlib.Core.Path.{◌≡◌}
-use mathlib.Core.List.{List}
-use native.Mathlib.Omega.{arith}
+use Rattle.std.proofs.Common.{◌≡◌, ℕ, ◌+◌, ◌-◌, ◌*◌, ◌≤◌, ◌<◌, length, arith}
+use Rattle.std.specs.Prelude.{IfSome}
 use mathlib.Core.Logic.{⊎_elim}
-use lib.ListN.{length}
 use Rattle.ground.proofs.BoolLaws.{lt-or-le}
 use Rattle.table.specs.Believed.Table.{Table}
 use Rattle.rewrite_rules.specs.Believed.Rewriting.{size_of}
-use Rattle.rewrite_grid.specs.Grid.{Parted}
-use Rattle.rewrite_masks.specs.Kinds.{Numbered}
-use Rattle.rewrite_count.specs.Parts.{length_with, Laid, CountedTo, KeepRoom}
+use Rattle.rewrite_derive.specs.Derive.{Room}
+use Rattle.rewrite_count.specs.Parts.{length_with, CountedTo, RoomFor}
 use Rattle.rewrite_count.specs.declared.Count.{Count}
+use Rattle.rewrite_count.specs.declared.fields.Fields.{Fields}
+use Rattle.rewrite_count.specs.declared.scratch.Scratch.{Scratch}
+use Rattle.rewrite_count.proofs.ScratchLaws.{of-kept}
 
--- what counting asks of the kinds
-pub laid : {s eras cells : List ℕ} {ne nc d : ℕ} {kinds lens ends masks : List ℕ} → Parted s eras ne cells nc → Numbered s ne nc d kinds lens ends masks
-    → Laid s ne d kinds ends masks
-laid {eras = eras} {cells} {nc = nc} {lens = lens} g q = record { eras = eras; cells = cells; nc = nc; lens = lens; parted = g; numbered = q }
-
--- room to keep so many roles, by the lengths of the scratch
-pub keep-room : {roles n a b : ℕ} {pairs marks : List ℕ} → length pairs ≡ a → length marks ≡ b → (2 * (roles * n) ≤ a) × (roles * (n + 1) ≤ b)
-    → KeepRoom roles n pairs marks
-keep-room p m h = record { for-pairs = omega (arith, h.0); for-marks = omega (arith, h.1) }
+-- where roles are kept there is room to keep them
+pub room-kept-for : {f : Fields} {s : Scratch} → Room f.mask_count s.trees f.masks.now s.pairs.now s.marks.now s.links.now
+    → IfSome s.kept (λ found. let roles = f.roles.now.end - f.roles.now.first in
+    (length found ≡ 32) × (2 * (roles * f.mask_count) ≤ length s.pairs.now) × (roles * (f.mask_count + 1) ≤ length s.marks.now))
+    → RoomFor f s
+room-kept-for {f} {s} r h =
+    let roles = f.roles.now.end - f.roles.now.first in
+    record {
+      room = r;
+      for-kept = λ e.
+          let z = of-kept s (λ found. (length found ≡ 32) × (2 * (roles * f.mask_count) ≤ length s.pairs.now) × (roles * (f.mask_count + 1) ≤ length s.marks.now)) h e in
+          record { for-pairs = z.1; for-marks = z.2 };
+    }
 
 -- counts that are a table's, or too many for the room, are that of any smaller room
 pub counted-within : {τ : Table} {room less : ℕ} {k : Count} → less ≤ room → CountedTo τ room k → CountedTo τ less k

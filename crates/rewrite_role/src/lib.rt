@@ -12,6 +12,7 @@ ghost use Rattle.rewrite_role.specs.Parts.{RowsFit, SetsAre, RoleDerivedTo};
 
 use hours::HoursRef;
 use rewrite_sets::Role;
+use rewrite_unions::Unions;
 use rota::Layout;
 
 // The slot of a reference: the number of its hours record, or 32 for always.
@@ -29,32 +30,30 @@ fn by_slot(s: &[u8], at: usize, n: usize, role: u8) -> [u64; 33]
     requires { RowsFit s.now at n }
     ensures { result ≡ by_slot (list_of n (row_at s.now at)) role }
 {
-    let mut sets = [0u64; 33];
-    let mut i = 0;
-    while i < n {
+    let mut sets = [0; 33];
+    for i in 0..n {
         let p = at + 3 * i;
         if s[p + 1] == role {
             let k = slot(hours::decode(s[p + 2])) as usize;
             sets[k] = bitset::with(sets[k], s[p] as u32);
         }
-        i += 1;
     }
     sets
 }
 
-// Role r of a rota.
-fn role_of(s: &[u8], l: Layout, r: u8) -> Role
+// Reads role r of a rota, in place: a role that is given back would stand on the stack twice.
+fn read_role(s: &[u8], l: Layout, r: u8, role: &mut Role)
     requires { Located s.now l × (r < roles_of s.now) }
-    ensures { result ≡ role_of (rota_of s.now) r }
+    ensures { role.new ≡ role_of (rota_of s.now) r }
 {
     let n = l.counts;
     let at = l.roles_at + r as usize;
-    Role {
-        source: r,
-        on: slot(hours::decode(s[at])),
-        users: by_slot(s, l.user_rows_at, n.user_rows as usize, r),
-        permissions: by_slot(s, l.permission_rows_at, n.permission_rows as usize, r),
-    }
+    let users = by_slot(s, l.user_rows_at, n.user_rows as usize, r);
+    let permissions = by_slot(s, l.permission_rows_at, n.permission_rows as usize, r);
+    role.source = r;
+    role.on = slot(hours::decode(s[at]));
+    role.users.load(&users);
+    role.permissions.load(&permissions);
 }
 
 // The derived roles of role r, in `pairs`, and the mark of each kind, the first n + 1 places of `marks`: how many derived roles.
@@ -74,6 +73,12 @@ pub fn derive_role(
     requires { Located s.now l × (r < roles_of s.now) × Room n w sets.now pairs.old marks.old links.old × SetsAre s.now sets.now n }
     ensures { RoleDerivedTo limit s.now r n pairs.new marks.new result }
 {
-    let role = role_of(s, l, r);
-    rewrite_derive::derive(role, sets, n, limit, pairs, marks, links, w)
+    let mut role = Role {
+        source: r,
+        on: 0,
+        users: Unions::none(),
+        permissions: Unions::none(),
+    };
+    read_role(s, l, r, &mut role);
+    rewrite_derive::derive(&role, sets, n, limit, pairs, marks, links, w)
 }

@@ -3,6 +3,7 @@
 --     runs-rows                                            the count is the number of rows that are written
 --     runs-stretches, stretches-rows                       the same by stretches: a stretch of cells with one mark counts once
 --     InCount, era-most                                    stretches of an era that are counted; no more rows than stretches
+--     slice-marks, slice-have                              the marks of some of the stretches
 --     Counting                                             eras that are counted
 -- Assumes nothing.
 use Prim.Native.Nat.{ℕ, zero, suc, ◌+◌, ◌-◌, ◌*◌, ◌≤◌, ◌<◌}
@@ -15,13 +16,15 @@ use native.Mathlib.Numerals.{add-one}
 use borrow.Author.Tests.{eqb-true, eqb-false, eq-eqb, ne_eqb}
 use lib.Dec.{eqb}
 use lib.ListN.{length, take, drop, get_or, replicate, length-append, length-drop}
-use lib.Seq.{slice, slice-cons, slice_empty, length-take-le, length-slice, take_all, take-nil, take-take, take-append-le, drop-append-le}
+use lib.Seq.{slice, get_or-take, get_or-drop, drop-cons, drop-length, slice-cons, slice_empty, length-take-le, length-slice, take_all, take-take, take-append-le, drop-append-le}
+use Rattle.std.proofs.lemmas.List.{drop-take, drop-map, take-map}
 use Rattle.ground.specs.Believed.Choice.{pick}
 use Rattle.minutes.specs.Believed.Minutes.{Window}
 use Rattle.table.specs.Believed.Table.{Row}
 use Rattle.rewrite_rules.specs.Believed.Cuts.{Gap, gaps_from, gaps}
 use Rattle.rewrite_rules.specs.Believed.Joined.{join_rows}
 use Rattle.rewrite_rules.specs.Believed.Rewriting.{field_of, fields_of}
+use Rattle.rewrite_rules.specs.Kinds.{by_kind}
 use Rattle.rewrite_rules.specs.Roles.{marked, rows_marked}
 use Rattle.rewrite_rules.proofs.CutLaws.{Above}
 use Rattle.rewrite_rules.proofs.RunLaws.{run_on, run_ends, run-last, rows-later, era-by-era}
@@ -29,7 +32,7 @@ use Rattle.rewrite_rules.proofs.TableCuts.{gaps-length, gaps_from-low, rising-ab
 use Rattle.rewrite_grid.specs.Grid.{Cuts}
 use Rattle.rewrite_grid.specs.Stretches.{field_kinds, stretch_count, Stretched}
 use Rattle.rewrite_grid.proofs.StretchLaws.{fields_from, fields_split, ends-rise}
-use Rattle.rewrite_rows.specs.Parts.{field_marks, role_rows, starts_row, runs_in, runs_of, runs_to, CountedRows}
+use Rattle.rewrite_rows.specs.Parts.{field_marks, HaveMarks, role_rows, starts_row, runs_in, runs_of, runs_to, CountedRows}
 use Rattle.rewrite_rows.proofs.FieldLaws.{gap, gaps-start, mark-is, marks-long, marks-append, marked-front}
 
 -- ---- one field
@@ -130,11 +133,6 @@ eras-count base a (y ∷ l) c cs ks s t n =
     (eras-count base y l c cs (drop (length cs) ks) s.1 t (omega (arith, length-drop (length cs) ks)))
 
 -- marks past those of the eras do not count
-drop-take : (i k : ℕ) (l : List ℕ) → drop i (take (i + k) l) ≡ take k (drop i l)
-drop-take zero k l = ap (λ (n : ℕ). take n l) (let q : 0 + k ≡ k = omega arith in q)
-drop-take (suc i) k [] = ap (drop (suc i)) (take-nil (suc i + k)) ∙ sym (take-nil k)
-drop-take (suc i) k (x ∷ l) = ap (λ (n : ℕ). drop (suc i) (take n (x ∷ l))) (let q : suc i + k ≡ suc (i + k) = omega arith in q) ∙ drop-take i k l
-
 runs-take : (n nc : ℕ) (ks : List ℕ) → runs_of n nc (take (n * nc) ks) ≡ runs_of n nc ks
 unfolding runs_of
 runs-take zero nc ks = refl
@@ -232,28 +230,47 @@ module _ {ne nc : ℕ} {kinds lens ends : List ℕ} (s : Stretched ne nc kinds l
 
 -- ---- one turn of each loop
 
--- in an era with stretches from `first` to before `end`: rows that begin before the stretch j, after which the run has mark `run`
-pub record InCount (first end : ℕ) (ms : List ℕ) (j run rows : ℕ) : Type 0 where
-  pub up_to : j ≤ end
-  pub few : first + rows ≤ j
-  pub rest : rows + runs_in run (slice j end ms) ≡ runs_in 0 (slice first end ms)
+-- in an era whose stretches have the marks ms: rows that begin before the stretch j, after which the run has mark `run`
+pub record InCount (ms : List ℕ) (j run rows : ℕ) : Type 0 where
+  pub few : rows ≤ j
+  pub rest : rows + runs_in run (drop j ms) ≡ runs_in 0 ms
 
-pub count-start : (first end : ℕ) (ms : List ℕ) → first ≤ end → InCount first end ms first 0 0
-count-start first end ms h = record { up_to = h; few = omega arith; rest = omega arith }
+pub count-start : (ms : List ℕ) → InCount ms 0 0 0
+count-start ms = record { few = omega arith; rest = omega arith }
 
-module _ {first end : ℕ} {ms : List ℕ} {j run rows : ℕ} (k : InCount first end ms j run rows) where
-  pub count_turn : end ≤ length ms → j < end → (m r : ℕ) → m ≡ get_or ms j 0 → r ≡ starts_row m run → InCount first end ms (j + 1) m (rows + r)
+module _ {ms : List ℕ} {j run rows : ℕ} (k : InCount ms j run rows) where
+  pub count_turn : j < length ms → (m r : ℕ) → m ≡ get_or ms j 0 → r ≡ starts_row m run → InCount ms (j + 1) m (rows + r)
   unfolding runs_in
-  count_turn hm h m r em er =
-      let turn : runs_in run (slice j end ms) ≡ starts_row m run + runs_in m (slice (j + 1) end ms) =
-      ap (runs_in run) (slice-cons j end ms 0 h hm) ∙ ap₂ (λ (x i : ℕ). starts_row x run + runs_in x (slice i end ms)) (sym em) (sym (add-one j)) in
-      record { up_to = omega arith; few = omega (arith, k.few, starts-most m run); rest = omega (arith, k.rest) }
+  count_turn h m r em er =
+      let turn : runs_in run (drop j ms) ≡ starts_row m run + runs_in m (drop (j + 1) ms) =
+      ap (runs_in run) (drop-cons ms j 0 h) ∙ ap₂ (λ (x i : ℕ). starts_row x run + runs_in x (drop i ms)) (sym em) (sym (add-one j)) in
+      record { few = omega (arith, k.few, starts-most m run); rest = omega (arith, k.rest) }
 
-  pub count-end : j ≡ end → rows ≡ runs_in 0 (slice first end ms)
+  pub count-end : j ≡ length ms → rows ≡ runs_in 0 ms
   unfolding runs_in
   count-end q =
-      let none : runs_in run (slice j end ms) ≡ 0 = ap (λ (i : ℕ). runs_in run (slice i end ms)) q ∙ ap (runs_in run) (slice_empty end ms) in
+      let none : runs_in run (drop j ms) ≡ 0 = ap (λ (i : ℕ). runs_in run (drop i ms)) q ∙ ap (runs_in run) (drop-length ms) in
       omega (arith, k.rest)
+
+-- the marks of the stretches from a to before b
+pub slice-marks : (marks kinds : List ℕ) (a b : ℕ) → a ≤ b → field_marks marks (take (b - a) (drop a kinds)) ≡ slice a b (field_marks marks kinds)
+unfolding field_marks
+slice-marks marks kinds a b h =
+    let e : a + (b - a) ≡ b = omega arith in
+    sym (take-map (by_kind marks) (b - a) (drop a kinds)) ∙ ap (take (b - a)) (sym (drop-map (by_kind marks) a kinds))
+    ∙ sym (drop-take a (b - a) (map (by_kind marks) kinds)) ∙ ap (λ (n : ℕ). drop a (take n (map (by_kind marks) kinds))) e
+
+pub slice-have : (kinds marks : List ℕ) (a b : ℕ) → a ≤ b → HaveMarks b kinds marks → HaveMarks (length (take (b - a) (drop a kinds))) (take (b - a) (drop a kinds)) marks
+slice-have kinds marks a b h p =
+    let n : length (take (b - a) (drop a kinds)) ≡ b - a = length-take-le (b - a) (drop a kinds) (omega (arith, length-drop a kinds, p.long)) in
+    record {
+      long = omega arith;
+      below =
+          λ i l.
+          let z : i < b - a = omega arith in
+          let same : get_or (take (b - a) (drop a kinds)) i 0 ≡ get_or kinds (a + i) 0 = get_or-take (b - a) (drop a kinds) i 0 z ∙ get_or-drop a kinds i 0 in
+          omega (arith, same, p.below (a + i) (omega arith));
+    }
 
 pub era-most : (first end : ℕ) (ms : List ℕ) → end ≤ length ms → runs_in 0 (slice first end ms) ≤ end - first
 era-most first end ms h = omega (arith, runs-most 0 (slice first end ms), length-slice first end ms h)

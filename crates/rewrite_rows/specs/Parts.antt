@@ -20,21 +20,24 @@ pub record HaveMarks (n : ℕ) (kinds marks : List ℕ) : Type 0 where
   pub long : n ≤ length kinds
   pub below : (i : ℕ) → i < n → get_or kinds i 0 < length marks
 
--- the stretches of an era, from `first` to before `last`: each has a field, and all have its nc fields
-pub record EraStretched (first last nc : ℕ) (kinds lens : List ℕ) : Type 0 where
-  pub long : last ≤ length lens
-  pub from : first ≤ last
-  pub some : (j : ℕ) → first ≤ j → j < last → 0 < get_or lens j 0
-  pub whole : length (field_kinds kinds lens last) ≡ length (field_kinds kinds lens first) + nc
+-- the stretches of an era: each has a field, and all have its nc fields
+pub record EraStretched (nc : ℕ) (kinds lens : List ℕ) : Type 0 where
+  pub long : length kinds ≤ length lens
+  pub some : (j : ℕ) → j < length kinds → 0 < get_or lens j 0
+  pub whole : length (field_kinds kinds lens (length kinds)) ≡ nc
 
 -- the field of an era and a cell, or a run of cells
 abbrev pub cell_of : ℕ → ℕ → ℕ → ℕ → Window
 cell_of begin end low high = field_of (record { low = begin; high = end }) (record { low = low; high = high })
 
--- the rows of an era with nc cells whose marks begin at `first`, and those of all ne eras: rows that touch are one
+-- the rows of an era with nc cells whose marks begin at `first`, and those of all ne eras (below): rows that touch are one
 unfoldable pub era_rows : ℕ → ℕ → ℕ → List ℕ → ℕ → List ℕ → ℕ → List Row
 era_rows base begin end cells nc ks first =
     join_rows (rows_marked base (map (field_of (record { low = begin; high = end })) (gaps (take (nc + 1) cells))) (take nc (drop first ks)))
+
+-- the rows of an era by its stretches
+abbrev pub stretch_rows : ℕ → ℕ → ℕ → List ℕ → ℕ → List ℕ → List ℕ → List ℕ → List Row
+stretch_rows base begin end cells nc kinds lens marks = era_rows base begin end cells nc (field_marks marks (field_kinds kinds lens (length kinds))) 0
 
 unfoldable pub role_rows : ℕ → List ℕ → ℕ → List ℕ → ℕ → List ℕ → List Row
 role_rows base eras ne cells nc ks = join_rows (rows_marked base (fields_of (gaps (take (ne + 1) eras)) (gaps (take (nc + 1) cells))) (take (ne * nc) ks))

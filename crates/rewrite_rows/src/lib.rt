@@ -5,7 +5,6 @@
 
 ghost use Rattle.std.specs.Prelude.{◌≡◌, ℕ, ◌+◌, ◌*◌, ◌<◌, ◌≤◌, [], length, get_or, take};
 ghost use Rattle.std.proofs.lemmas.List.Edits.{sets};
-ghost use Rattle.std.proofs.Math.Seq.{slice};
 ghost use Rattle.ground.specs.Believed.Sequence.{joined};
 ghost use Rattle.minutes.specs.Believed.Minutes.{E};
 ghost use Rattle.table.specs.Believed.TableBytes.{entry_bytes, row_bytes};
@@ -13,17 +12,17 @@ ghost use Rattle.rewrite_rules.specs.Roles.{marked};
 ghost use Rattle.rewrite_index.specs.Entries.{entries_to};
 ghost use Rattle.rewrite_grid.specs.Grid.{Cuts};
 ghost use Rattle.rewrite_grid.specs.Stretches.{field_kinds, stretch_count, Stretched};
-ghost use Rattle.rewrite_rows.specs.Parts.{field_marks, HaveMarks, EraStretched, cell_of, era_rows, role_rows, starts_row, runs_in, runs_to, CountedRows};
+ghost use Rattle.rewrite_rows.specs.Parts.{field_marks, HaveMarks, EraStretched, cell_of, stretch_rows, role_rows, starts_row, runs_in, runs_to, CountedRows};
+
+use table::Window;
 
 // Writes the first d pairs of sets as entries.
 pub fn write_entries(out: &mut [u8], at: usize, source: u8, pairs: &[u64], d: usize)
     requires { (at + 17 * d ≤ length out.old) × (2 * d ≤ length pairs.now) }
     ensures { out.new ≡ sets out.old at (joined entry_bytes (entries_to source d pairs.now)) }
 {
-    let mut i = 0;
-    while i < d {
+    for i in 0..d {
         table_writer::write_entry(out, at + 17 * i, source, pairs[2 * i], pairs[2 * i + 1]);
-        i += 1;
     }
 }
 
@@ -49,48 +48,34 @@ fn write_marked(
         out,
         at,
         base + (m as u32 - 1),
-        begin,
-        end,
-        low as u16,
-        (high - low) as u16,
+        Window {
+            begin,
+            end,
+            offset: low as u16,
+            length: (high - low) as u16,
+        },
     );
     at + 16
-}
-
-// The mark of stretch i.
-fn mark_of(kinds: &[u16], i: usize, marks: &[u16]) -> u16
-    requires { (i < length kinds.now) × (get_or kinds.now i 0 < length marks.now) }
-    ensures { result ≡ get_or (field_marks marks.now kinds.now) i 0 }
-{
-    marks[kinds[i] as usize]
 }
 
 // How many rows begin at a stretch with mark m that comes after one with mark `run`: 1 or none.
 fn starts(m: u16, run: u16) -> usize
     ensures { result ≡ starts_row m run }
 {
-    if m == 0 {
-        return 0;
-    }
-    if m == run {
-        return 0;
-    }
-    1
+    if m != 0 && m != run { 1 } else { 0 }
 }
 
-// How many rows an era has, whose stretches are those from `first` to before `end`.
-fn count_era(kinds: &[u16], first: usize, end: usize, marks: &[u16]) -> usize
-    requires { HaveMarks end kinds.now marks.now × (first ≤ end) }
-    ensures { result ≡ runs_in 0 (slice first end (field_marks marks.now kinds.now)) }
+// How many rows an era has, by the kinds of its stretches.
+fn count_era(kinds: &[u16], marks: &[u16]) -> usize
+    requires { HaveMarks (length kinds.now) kinds.now marks.now }
+    ensures { result ≡ runs_in 0 (field_marks marks.now kinds.now) }
 {
     let mut rows = 0;
     let mut prior = 0;
-    let mut j = first;
-    while j < end {
-        let m = mark_of(kinds, j, marks);
+    for kind in kinds {
+        let m = marks[*kind as usize];
         rows += starts(m, prior);
         prior = m;
-        j += 1;
     }
     rows
 }
@@ -101,19 +86,16 @@ pub fn count_rows(kinds: &[u16], ends: &[usize], ne: usize, marks: &[u16], limit
     ensures { CountedRows limit (runs_to ends.now (field_marks marks.now kinds.now) ne) (stretch_count ends.now ne) result }
 {
     let mut rows = 0;
-    let mut e = 0;
-    while e < ne {
+    for e in 0..ne {
         if limit < rows {
             return rows;
         }
-        rows += count_era(kinds, ends[e], ends[e + 1], marks);
-        e += 1;
+        rows += count_era(&kinds[ends[e]..ends[e + 1]], marks);
     }
     rows
 }
 
-// Writes the rows of an era, whose stretches are those from `first` to before `last`: where the next row goes. A run of cells with one mark, which
-// begins at the phase `low`, is one row.
+// Writes the rows of an era, by its stretches: where the next row goes. A run of cells with one mark, which begins at the phase `low`, is one row.
 fn write_era(
     out: &mut [u8],
     at: usize,
@@ -124,29 +106,25 @@ fn write_era(
     nc: usize,
     kinds: &[u16],
     lens: &[u8],
-    first: usize,
-    last: usize,
     marks: &[u16],
 ) -> usize
-    requires first_in_bounds { (at + 16 * length (era_rows base begin end cells.now nc (field_marks marks.now (field_kinds kinds.now lens.now last)) (length (field_kinds kinds.now lens.now first))) ≤ length out.old) × (base ≤ 1067040) }
-    requires have_marks { HaveMarks last kinds.now marks.now × EraStretched first last nc kinds.now lens.now × Cuts (take (nc + 1) cells.now) cells.now nc 65535 }
-    ensures { (out.new ≡ sets out.old at (joined row_bytes (era_rows base begin end cells.now nc (field_marks marks.now (field_kinds kinds.now lens.now last)) (length (field_kinds kinds.now lens.now first)))))
-        × (result ≡ at + 16 * length (era_rows base begin end cells.now nc (field_marks marks.now (field_kinds kinds.now lens.now last)) (length (field_kinds kinds.now lens.now first)))) }
+    requires room { (at + 16 * length (stretch_rows base begin end cells.now nc kinds.now lens.now marks.now) ≤ length out.old) × (base ≤ 1067040) }
+    requires have_marks { HaveMarks (length kinds.now) kinds.now marks.now × EraStretched nc kinds.now lens.now × Cuts (take (nc + 1) cells.now) cells.now nc 65535 }
+    ensures { (out.new ≡ sets out.old at (joined row_bytes (stretch_rows base begin end cells.now nc kinds.now lens.now marks.now)))
+        × (result ≡ at + 16 * length (stretch_rows base begin end cells.now nc kinds.now lens.now marks.now)) }
 {
     let mut p = at;
     let mut run = 0;
     let mut low = cells[0];
     let mut c = 0;
-    let mut j = first;
-    while j < last {
-        let m = mark_of(kinds, j, marks);
+    for (j, kind) in kinds.iter().enumerate() {
+        let m = marks[*kind as usize];
         if m != run {
             p = write_marked(out, p, base, run, begin, end, low, cells[c]);
             run = m;
             low = cells[c];
         }
         c += lens[j] as usize;
-        j += 1;
     }
     write_marked(out, p, base, run, begin, end, low, cells[nc])
 }
@@ -171,8 +149,8 @@ pub fn write_rows(
         × (result ≡ at + 16 * length (role_rows base eras.now ne cells.now nc (field_marks marks.now (field_kinds kinds.now lens.now (stretch_count ends.now ne))))) }
 {
     let mut p = at;
-    let mut e = 0;
-    while e < ne {
+    for e in 0..ne {
+        let (first, last) = (ends[e], ends[e + 1]);
         p = write_era(
             out,
             p,
@@ -181,13 +159,10 @@ pub fn write_rows(
             eras[e + 1],
             cells,
             nc,
-            kinds,
-            lens,
-            ends[e],
-            ends[e + 1],
+            &kinds[first..last],
+            &lens[first..last],
             marks,
         );
-        e += 1;
     }
     p
 }

@@ -88,7 +88,7 @@ pub count-exactly : {A : Type 0} (f : A → Bool) (l : List A) → Distinct l �
 unfolding count_of
 count-exactly f l d x m h alone =
     let some_one : Without f x l = without f x l m h in
-    let at_most : count_of f l ≤ 1
+    let no_more : count_of f l ≤ 1
     = pigeon f (λ z. true) (λ y z. y ≡ z) (λ a b c p q. p ∙ sym q) l d (x ∷ [])
     (λ y n k. record { partner = x; there = Memᴰ.head refl; passes = refl; matched = alone y n k }) in
     omega (arith, some_one.fewer)

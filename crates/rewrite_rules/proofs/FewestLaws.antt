@@ -7,7 +7,7 @@ use Prim.Native.Nat.{ℕ, ◌≤◌, ◌<◌}
 use mathlib.Core.Path.{◌≡◌, sym, ap, ap₂, ◌∙◌, subst}
 use mathlib.Core.Logic.{⊎_elim}
 use mathlib.Core.Bool.{Bool, true, ◌&&◌}
-use mathlib.Core.Option.{Option, some}
+use Rattle.std.proofs.Common.{Option, Some}
 use mathlib.Core.List.Memᴰ
 use mathlib.Core.List.{List, [], map, Memᴰ}
 use lib.Dec.{eqb}
@@ -93,7 +93,7 @@ module _ (ρ : Rota) (w : RotaWell ρ) where
       of-kept z =
           let k : Kept = z.0 in
           let r = kept_out ρ k z.1 in
-          let a : KeptAt ρ r.0 k.field e = kept-minute ρ r.0 k.field e (r.2.kept-as ∙ ap {B = Option Entry} some z.2) in
+          let a : KeptAt ρ r.0 k.field e = kept-minute ρ r.0 k.field e (r.2.kept-as ∙ ap {B = Option Entry} Some z.2) in
           let s : r.0 ≡ e.source = ap (λ (x : Entry). x.source) a.is in
           (k.field, subst (λ (q : ℕ). KeptAt ρ q k.field e) s a)
 

@@ -5,7 +5,7 @@
 use Prim.Native.Nat.{ℕ, zero, suc, ◌+◌, ◌≤◌, ◌<◌, zero-le}
 use mathlib.Core.Path.{◌≡◌, refl, sym, ap, ◌∙◌}
 use mathlib.Core.Logic.{◌⊎◌, inl, inr, ⊎_elim}
-use mathlib.Core.Option.{Option, none, some}
+use Rattle.std.proofs.Common.{Option, None, Some}
 use mathlib.Core.List.Memᴰ
 use mathlib.Core.List.{List, [], ◌∷◌, ◌++◌, Memᴰ}
 use native.Mathlib.Decide.{ℕ_discrete}
@@ -18,7 +18,7 @@ use Rattle.rewrite_rules.specs.Believed.Rewriting.{fields, kept_as, Kept, keep, 
 
 pub record KeptFor (ρ : Rota) (r : ℕ) (fs : List Window) (k : Kept) : Type 0 where
   pub field_in : Memᴰ k.field fs
-  pub kept-as : kept_as ρ r k.field ≡ some k.entry
+  pub kept-as : kept_as ρ r k.field ≡ Some k.entry
 
 module _ (ρ : Rota) where
   module _ (r : ℕ) where
@@ -30,16 +30,16 @@ module _ (ρ : Rota) where
         later : KeptFor ρ r fs k → KeptFor ρ r (f ∷ fs) k
         later b = record { field_in = Memᴰ.tail b.field_in; kept-as = b.kept-as }
 
-        here : (e : Entry) → kept_as ρ r f ≡ some e → k ≡ record { entry = e; field = f } → KeptFor ρ r (f ∷ fs) k
+        here : (e : Entry) → kept_as ρ r f ≡ Some e → k ≡ record { entry = e; field = f } → KeptFor ρ r (f ∷ fs) k
         here e q p =
             let pf : k.field ≡ f = ap (λ (z : Kept). z.field) p in
             let pe : k.entry ≡ e = ap (λ (z : Kept). z.entry) p in
-            record { field_in = Memᴰ.head pf; kept-as = ap (kept_as ρ r) pf ∙ q ∙ ap {B = Option Entry} some (sym pe) }
+            record { field_in = Memᴰ.head pf; kept-as = ap (kept_as ρ r) pf ∙ q ∙ ap {B = Option Entry} Some (sym pe) }
 
         go : (o : Option Entry) → kept_as ρ r f ≡ o → (Memᴰ k (kept_of ρ r fs) → KeptFor ρ r fs k) → Memᴰ k (keep o f (kept_of ρ r fs))
             → KeptFor ρ r (f ∷ fs) k
-        go none q rest n = later (rest n)
-        go (some e) q rest n = ⊎_elim (here e q) (λ j. later (rest j)) (Memᴰ.cases_cons n)
+        go None q rest n = later (rest n)
+        go (Some e) q rest n = ⊎_elim (here e q) (λ j. later (rest j)) (Memᴰ.cases_cons n)
 
     of-in : (fs : List Window) (k : Kept) → KeptFor ρ r fs k → Memᴰ k (kept_of ρ r fs)
     unfolding kept_of
@@ -47,14 +47,14 @@ module _ (ρ : Rota) where
     of-in (f ∷ fs) k b = go (kept_as ρ r f) refl (λ m. of-in fs k (record { field_in = m; kept-as = b.kept-as })) (Memᴰ.cases_cons b.field_in)
       where
         past : (o : Option Entry) → Memᴰ k (kept_of ρ r fs) → Memᴰ k (keep o f (kept_of ρ r fs))
-        past none n = n
-        past (some e) n = Memᴰ.tail n
+        past None n = n
+        past (Some e) n = Memᴰ.tail n
 
         go : (o : Option Entry) → kept_as ρ r f ≡ o → (Memᴰ k.field fs → Memᴰ k (kept_of ρ r fs)) → (k.field ≡ f) ⊎ Memᴰ k.field fs
             → Memᴰ k (keep o f (kept_of ρ r fs))
         go o p rest (inr n) = past o (rest n)
-        go none p rest (inl s) = let z : ◌≡◌ {A = ℕ} 0 1 = cc (ap (kept_as ρ r) s, b.kept-as) in absurd (omega arith)
-        go (some e) p rest (inl s) =
+        go None p rest (inl s) = let z : ◌≡◌ {A = ℕ} 0 1 = cc (ap (kept_as ρ r) s, b.kept-as) in absurd (omega arith)
+        go (Some e) p rest (inl s) =
             let z : k.entry ≡ e = cc (ap (kept_as ρ r) s, b.kept-as) in
             Memᴰ.head (λ i. record { entry = z i; field = s i })
 

@@ -8,7 +8,7 @@ use Prim.Native.Nat.{ℕ, zero, suc, ◌+◌, ◌≤◌, ◌<◌}
 use mathlib.Core.Path.{◌≡◌, refl, sym, ap, ap₂, ◌∙◌, subst}
 use mathlib.Core.Logic.{⊎_elim}
 use mathlib.Core.Bool.{Bool, true, false}
-use mathlib.Core.Option.{Option, none, some}
+use Rattle.std.proofs.Common.{Option, None, Some}
 use mathlib.Core.List.{List, [], ◌∷◌, ◌++◌, map}
 use native.Mathlib.Omega.{arith}
 use borrow.Author.Tests.{eqb-true, eqb-false, eq-eqb}
@@ -110,32 +110,32 @@ kinds-most ds (m ∷ ms) = (subst (λ (k : ℕ). k ≤ length (masks_from (add_m
 
 -- what a mask gives is nothing, or is among the derived roles
 abbrev pub Known : List Entry → Option Entry → Type 0
-Known es none = Unit {0}
-Known es (some e) = there same e es ≡ true
+Known es None = Unit {0}
+Known es (Some e) = there same e es ≡ true
 
 pub known_next : (es : List Entry) (o : Option Entry) → Known (next_entries es o) o
 unfolding next_entries
-known_next es none = tt
-known_next es (some e) = add-there same same_self es e
+known_next es None = tt
+known_next es (Some e) = add-there same same_self es e
 
 -- then it adds nothing
 pub known_same : (es : List Entry) (o : Option Entry) → Known es o → next_entries es o ≡ es
 unfolding next_entries
-known_same es none k = refl
-known_same es (some e) k = add-found same es e (place-below same e es k)
+known_same es None k = refl
+known_same es (Some e) k = add-found same es e (place-below same e es k)
 
 -- its mark is what it was before it was added
 pub mark-next : (es : List Entry) (o : Option Entry) → mark_of (next_entries es o) o ≡ mark_of es o
 unfolding next_entries mark_of
-mark-next es none = refl
-mark-next es (some e) = ap suc (place-add same same_self es e)
+mark-next es None = refl
+mark-next es (Some e) = ap suc (place-add same same_self es e)
 
 -- another that is added changes neither
 known_step : (es : List Entry) (o p : Option Entry) → Known es o → Known (next_entries es p) o × (mark_of (next_entries es p) o ≡ mark_of es o)
 unfolding next_entries mark_of add_all
-known_step es none p k = (tt, refl)
-known_step es (some e) none k = (k, refl)
-known_step es (some e) (some d) k = (add_all-keeps same e es (d ∷ []) k, ap suc (place-stays same e es (d ∷ []) k))
+known_step es None p k = (tt, refl)
+known_step es (Some e) None k = (k, refl)
+known_step es (Some e) (Some d) k = (add_all-keeps same e es (d ∷ []) k, ap suc (place-stays same e es (d ∷ []) k))
 
 -- what a function gives, at an index
 pub map_at : (f : ℕ → ℕ) (l : List ℕ) (i : ℕ) → i < length l → get_or (map f l) i 0 ≡ f (get_or l i 0)
@@ -176,7 +176,7 @@ module _ (g : ℕ → Option Entry) where
       let next = next_entries es (g m) in
       ap₂ ◌∷◌ (sym ((known-stays next (g m) ms (known_next es (g m))).1 ∙ mark-next es (g m))) (marks-are next ms)
 
-  module _ (none-at : g 0 ≡ none) where
+  module _ (none-at : g 0 ≡ None) where
     -- a mask that is there already, or is 0, gives nothing new
     derived-add : (ds : List ℕ) (m : ℕ) → derived_from g [] (add_mask ds m) ≡ next_entries (derived_from g [] ds) (g m)
     unfolding next_entries

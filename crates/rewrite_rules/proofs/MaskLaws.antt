@@ -4,7 +4,7 @@ use Rattle.ground.proofs.ListLaws.{all_in, at_in, some_same}
 use Prim.Native.Nat.{ℕ, ◌<◌}
 use mathlib.Core.Path.{◌≡◌, refl, sym, ap, ◌∙◌}
 use mathlib.Core.Bool.{Bool, true, false, ◌&&◌}
-use mathlib.Core.Option.{none}
+use Rattle.std.proofs.Common.{None}
 use mathlib.Core.List.{List, Memᴰ}
 use native.Mathlib.Omega.{arith}
 use lib.Dec.{ltb, eqb}
@@ -27,7 +27,7 @@ use Rattle.rewrite_rules.proofs.FieldLaws.{ends}
 use Rattle.rewrite_rules.proofs.KeptLaws.{kept_by, kept-closed}
 
 -- no role has anything where nothing holds
-nothing-in : (ρ : Rota) (r : ℕ) → kept_in ρ r 0 ≡ none
+nothing-in : (ρ : Rota) (r : ℕ) → kept_in ρ r 0 ≡ None
 unfolding kept_in
 nothing-in ρ r = rw (has-none (slot_of (role_hours ρ r)))
 
@@ -75,6 +75,6 @@ mask-kept ρ w r l f m = kept-closed ρ r f w m ∙ go (ltb t f.end) refl
     t : ℕ
     t = minute_of ρ.cycle f
 
-    go : (b : Bool) → ltb t f.end ≡ b → pick b (kept_by ρ r f t) none ≡ kept_in ρ r (pick b (held ρ t) 0)
+    go : (b : Bool) → ltb t f.end ≡ b → pick b (kept_by ρ r f t) None ≡ kept_in ρ r (pick b (held ρ t) 0)
     go true e = held_kept ρ w t (omega (arith, ltb-true t f.end e, ends ρ w m)) r f l
     go false e = sym (nothing-in ρ r)

@@ -8,7 +8,7 @@ use Prim.Native.Nat.{ℕ, ◌<◌}
 use mathlib.Core.Path.{◌≡◌, refl, sym, ap, ◌∙◌, subst}
 use mathlib.Core.Logic.{inr}
 use mathlib.Core.Bool.{Bool, true, false, ◌&&◌}
-use mathlib.Core.Option.{none, some}
+use Rattle.std.proofs.Common.{None, Some}
 use mathlib.Core.List.{List, [], map, Memᴰ}
 use native.Mathlib.Omega.{arith}
 use lib.Dec.{eqb}
@@ -80,7 +80,7 @@ module _ (ρ : Rota) (r t : ℕ) where
 
 -- ---- derived roles
 
-pick_some : (b : Bool) (x e : Entry) → pick b (some x) none ≡ some e → (b ≡ true) × (x ≡ e)
+pick_some : (b : Bool) (x e : Entry) → pick b (Some x) None ≡ Some e → (b ≡ true) × (x ≡ e)
 pick_some true x e h = (refl, (cc))
 pick_some false x e h = let z : ◌≡◌ {A = ℕ} 0 1 = cc in absurd (omega arith)
 
@@ -138,7 +138,7 @@ module _ (ρ : Rota) (w : RotaWell ρ) where
   complete r t hr ht a =
       let z = field-find ρ w t ht in
       let k : Kept = record { entry = derived_at ρ r t; field = z.0 } in
-      let q : kept_as ρ r z.0 ≡ some (derived_at ρ r t) = kept-is ρ r z.0 w z.1 t z.2 ∙ pick_true _ _ none a in
+      let q : kept_as ρ r z.0 ≡ Some (derived_at ρ r t) = kept-is ρ r z.0 w z.1 t z.2 ∙ pick_true _ _ None a in
       let m : Memᴰ k (kept ρ) = kept-in ρ r k hr (record { field_in = z.1; kept-as = q }) in
       let es : List Entry = entries_of (kept ρ) in
       let there : Memᴰ k.entry es = entry_in k m in

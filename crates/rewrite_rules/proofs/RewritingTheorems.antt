@@ -15,7 +15,7 @@ use Prim.Native.Nat.{ℕ, zero, suc, ◌≤◌, ◌<◌}
 use mathlib.Core.Path.{◌≡◌, refl, sym, ap, ◌∙◌}
 use mathlib.Core.Logic.{◌↔◌}
 use mathlib.Core.Bool.{true}
-use mathlib.Core.Option.{none, some}
+use Rattle.std.proofs.Common.{None, Some}
 use mathlib.Core.List.{List, Memᴰ}
 use native.Mathlib.Omega.{arith}
 use lib.Dec.{ltb, eqb}
@@ -92,7 +92,7 @@ module _ {ρ : Rota} (w : RotaWell ρ) where
   pub kept-by-first : (r : ℕ) (f : Window) → Memᴰ f (fields ρ)
       → kept_as ρ r f
       ≡ pick (ltb (minute_of ρ.cycle f) f.end)
-      (pick (active ρ r (minute_of ρ.cycle f)) (some (derived_at ρ r (minute_of ρ.cycle f))) none) none
+      (pick (active ρ r (minute_of ρ.cycle f)) (Some (derived_at ρ r (minute_of ρ.cycle f))) None) None
   kept-by-first r f m = kept-closed ρ r f w m
 
   -- and by the hours that hold in the field
@@ -133,7 +133,7 @@ module _ {ρ : Rota} (w : RotaWell ρ) where
   fewest r hr os h = no-fewer ρ w r hr os (joined-rival ρ r os h)
 
 -- with C 10, hours (3, 5, pair (0, 10)) and (0, E, pair (6, 2)): era 3 to 5 with cell 6 to 8 is a field, and no kept field
-pub worked-field : Memᴰ field (fields example) × (kept_as example 0 field ≡ none) × ((k : Kept) → Memᴰ k (kept example) → k.field ≡ field → ⊥)
+pub worked-field : Memᴰ field (fields example) × (kept_as example 0 field ≡ None) × ((k : Kept) → Memᴰ k (kept example) → k.field ≡ field → ⊥)
 worked-field = (field_in, not-kept 0, not-among)
 
 -- a second judgement that refuses nothing where the first does not

@@ -6,7 +6,7 @@
 -- Assumes nothing.
 use Prim.Native.Nat.{ℕ, suc, ◌+◌, ◌≤◌}
 use mathlib.Core.Path.{◌≡◌, refl, ap, ap₂, ◌∙◌}
-use mathlib.Core.Option.{Option, none, some}
+use Rattle.std.proofs.Common.{Option, None, Some}
 use mathlib.Core.List.{List, [], ◌∷◌, map}
 use native.Mathlib.Omega.{arith}
 use lib.ListN.{length}
@@ -31,8 +31,8 @@ module _ (g : ℕ → Option Entry) where
       Bounds es n ds = (length es ≤ length ds) × (length ds ≤ length es + n)
 
       go : (o : Option Entry) → ((q : List Entry) → Bounds q (length ms) (derived_from g q ms)) → Bounds es (suc (length ms)) (derived_from g (next_entries es o) ms)
-      go none ih = let h = ih es in (h.0, omega (arith, h.1))
-      go (some e) ih = let h = ih (add_new same es e) in let k = add-length same es e in (omega (arith, h.0, k.0), omega (arith, h.1, k.1))
+      go None ih = let h = ih es in (h.0, omega (arith, h.1))
+      go (Some e) ih = let h = ih (add_new same es e) in let k = add-length same es e in (omega (arith, h.0, k.0), omega (arith, h.1, k.1))
 
   pub marks-length : (es : List Entry) (ms : List ℕ) → length (marks_from g es ms) ≡ length ms
   unfolding marks_from
@@ -45,8 +45,8 @@ module _ (g : ℕ → Option Entry) where
   marks-most es (m ∷ ms) = (go (g m), marks-most (next_entries es (g m)) ms)
     where
       go : (o : Option Entry) → mark_of es o ≤ length (derived_from g (next_entries es o) ms)
-      go none = omega arith
-      go (some e) =
+      go None = omega arith
+      go (Some e) =
           let place = place-add same same_self es e in
           let below = place-below same e (add_new same es e) (add-there same same_self es e) in
           omega (arith, (derived-length (add_new same es e) ms).0)
@@ -73,8 +73,8 @@ module _ (ρ : Rota) (r : ℕ) (g : ℕ → Option Entry) where
     where
       go : (o : Option Entry) → ((q : List Entry) → add_all same q (map entry (kept_of ρ r fs)) ≡ derived_from g q ms)
           → add_all same es (map entry (keep o f (kept_of ρ r fs))) ≡ derived_from g (next_entries es o) ms
-      go none ih = ih es
-      go (some e) ih = ih (add_new same es e)
+      go None ih = ih es
+      go (Some e) ih = ih (add_new same es e)
 
   marked_more : (base : ℕ) (es : List Entry) (fs : List Window) (ms : List ℕ) → Agree ρ r g fs ms
       → map (row_at base (add_all same es (map entry (kept_of ρ r fs)))) (kept_of ρ r fs) ≡ rows_marked base fs (marks_from g es ms)
@@ -90,8 +90,8 @@ module _ (ρ : Rota) (r : ℕ) (g : ℕ → Option Entry) where
       go : (o : Option Entry) → ((q : List Entry) → map (row_at base (add_all same q later)) (kept_of ρ r fs) ≡ rows_marked base fs (marks_from g q ms))
           → map (row_at base (add_all same es (map entry (keep o f (kept_of ρ r fs))))) (keep o f (kept_of ρ r fs))
           ≡ marked base f (mark_of es o) (rows_marked base fs (marks_from g (next_entries es o) ms))
-      go none ih = ih es
-      go (some e) ih =
+      go None ih = ih es
+      go (Some e) ih =
           let place : place_of same e (add_all same (add_new same es e) later) ≡ place_of same e es =
           place-stays same e (add_new same es e) later (add-there same same_self es e) ∙ place-add same same_self es e in
           ap₂ (λ (k : ℕ) (ws : List Row). record { derived = base + k; window = f } ∷ ws) place (ih (add_new same es e))

@@ -12,7 +12,7 @@ use Prim.Native.Nat.{ℕ, zero, suc, ◌+◌, ◌*◌, ◌^◌, ◌≤◌, ◌<�
 use mathlib.Core.Path.{◌≡◌, refl, sym, subst, ◌∙◌}
 use mathlib.Core.Logic.{◌⊎◌, inl, inr}
 use mathlib.Core.Bool.{true, false, not, ◌&&◌}
-use mathlib.Core.Option.{Option, none, some}
+use Rattle.std.proofs.Common.{Option, None, Some}
 use mathlib.Core.List.{List, [], ◌∷◌, map}
 use native.Mathlib.Nat.{mul-le-mul_right, mul-le-mul_left}
 use native.Mathlib.Omega.{arith}
@@ -90,26 +90,26 @@ module _ (ρ : Rota) where
         permissions-below = set_of-lt ρ.permissions _;
       }
 
-  pub kept-derived : (r : ℕ) (f : Window) (e : Entry) → kept_as ρ r f ≡ some e → DerivedOf ρ r e
+  pub kept-derived : (r : ℕ) (f : Window) (e : Entry) → kept_as ρ r f ≡ Some e → DerivedOf ρ r e
   unfolding kept_as
   kept-derived r f e h = go (lowest_below E (λ t. covers ρ.cycle f t && active ρ r t)) refl h
     where
-      go : (o : Option ℕ) → lowest_below E (λ t. covers ρ.cycle f t && active ρ r t) ≡ o → derived_there ρ r o ≡ some e → DerivedOf ρ r e
-      go none p q = let z : ◌≡◌ {A = ℕ} 0 1 = cc in absurd (omega arith)
-      go (some t) p q =
+      go : (o : Option ℕ) → lowest_below E (λ t. covers ρ.cycle f t && active ρ r t) ≡ o → derived_there ρ r o ≡ Some e → DerivedOf ρ r e
+      go None p q = let z : ◌≡◌ {A = ℕ} 0 1 = cc in absurd (omega arith)
+      go (Some t) p q =
           let is : derived_at ρ r t ≡ e = cc in
           subst (DerivedOf ρ r) is (active-derived r t (and_yes (covers ρ.cycle f t) (active ρ r t) (lowest-out _ E t p).1).1)
 
   -- of all that is kept for a role holds what holds of each field that is kept
   pub kept_of-all : (P : Kept → Type 0) (r : ℕ) (fs : List Window)
-      → All (λ (f : Window). (e : Entry) → kept_as ρ r f ≡ some e → P (record { entry = e; field = f })) fs → All P (kept_of ρ r fs)
+      → All (λ (f : Window). (e : Entry) → kept_as ρ r f ≡ Some e → P (record { entry = e; field = f })) fs → All P (kept_of ρ r fs)
   unfolding kept_of
   kept_of-all P r [] h = tt
   kept_of-all P r (f ∷ fs) h = go (kept_as ρ r f) refl (kept_of-all P r fs h.1)
     where
       go : (o : Option Entry) → kept_as ρ r f ≡ o → All P (kept_of ρ r fs) → All P (keep o f (kept_of ρ r fs))
-      go none e q = q
-      go (some x) e q = (h.0 x e, q)
+      go None e q = q
+      go (Some x) e q = (h.0 x e, q)
 
   pub kept_of-fields : (P : Window → Type 0) (r : ℕ) (fs : List Window) → All P fs → All (λ (k : Kept). P k.field) (kept_of ρ r fs)
   kept_of-fields P r fs h = kept_of-all (λ (k : Kept). P k.field) r fs (all-with (λ f p e q. p) fs h)
@@ -123,8 +123,8 @@ module _ (ρ : Rota) where
   kept_of-length r (f ∷ fs) = go (kept_as ρ r f) (kept_of-length r fs)
     where
       go : (o : Option Entry) → length (kept_of ρ r fs) ≤ length fs → length (keep o f (kept_of ρ r fs)) ≤ suc (length fs)
-      go none h = omega arith
-      go (some e) h = omega arith
+      go None h = omega arith
+      go (Some e) h = omega arith
 
   kept_of-ordered : (r : ℕ) (fs : List Window) → Pairwise Before fs → Pairwise (λ (j k : Kept). Before j.field k.field) (kept_of ρ r fs)
   unfolding kept_of
@@ -135,8 +135,8 @@ module _ (ρ : Rota) where
       Ordered = Pairwise (λ (j k : Kept). Before j.field k.field)
 
       go : (o : Option Entry) → All (λ (k : Kept). Before f k.field) (kept_of ρ r fs) → Ordered (kept_of ρ r fs) → Ordered (keep o f (kept_of ρ r fs))
-      go none a b = b
-      go (some e) a b = (a, b)
+      go None a b = b
+      go (Some e) a b = (a, b)
 
   -- n roles from r on
   pub kept_from-all : (P : Kept → Type 0) (n r : ℕ) → ((q : ℕ) → r ≤ q → q < r + n → All P (kept_of ρ q (fields ρ))) → All P (kept_from ρ n r)

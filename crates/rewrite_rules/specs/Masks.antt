@@ -1,7 +1,6 @@
 -- A field by the hours that hold in it, as the code goes about it. Nothing here is part of the rules: each definition is proved to give what the
 -- rules give.
-use Rattle.std.specs.Prelude.{ℕ, Bool, not, ◌&&◌, List, ltb, eqb, length, get_or}
-use Rattle.std.proofs.Math.Option.{Option, none, some}
+use Rattle.std.specs.Prelude.{ℕ, Bool, not, ◌&&◌, List, ltb, eqb, length, get_or, Option, None, Some}
 use Rattle.ground.specs.Believed.Choice.{pick}
 use Rattle.ground.specs.Believed.Search.{any}
 use Rattle.bitset.specs.Believed.Sets.{has, insert, set_of}
@@ -38,4 +37,4 @@ permissions_in ρ r m = set_of ρ.permissions (λ p. assigned_in m ρ.permission
 unfoldable pub kept_in : Rota → ℕ → ℕ → Option Entry
 kept_in ρ r m =
     pick (has m (slot_of (role_hours ρ r)) && not (eqb (users_in ρ r m) 0) && not (eqb (permissions_in ρ r m) 0))
-    (some (record { source = r; users = users_in ρ r m; permissions = permissions_in ρ r m })) none
+    (Some (record { source = r; users = users_in ρ r m; permissions = permissions_in ρ r m })) None

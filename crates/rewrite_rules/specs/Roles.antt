@@ -1,7 +1,6 @@
 -- The rewriting role by role, and one role by the masks of its fields, as the code goes about it. Nothing here is part of the rules: each definition
 -- is proved to give what the rules give.
-use Rattle.std.specs.Prelude.{ℕ, zero, suc, ◌+◌, ◌-◌, List, [], ◌∷◌, ◌++◌, map, length}
-use Rattle.std.proofs.Math.Option.{Option, none, some}
+use Rattle.std.specs.Prelude.{ℕ, zero, suc, ◌+◌, ◌-◌, List, [], ◌∷◌, ◌++◌, map, length, Option, None, Some}
 use Rattle.minutes.specs.Believed.Minutes.{Window}
 use Rattle.rota.specs.Believed.Rota.{Rota}
 use Rattle.table.specs.Believed.Table.{Entry, Row, Table}
@@ -52,12 +51,12 @@ rewrite_roles ρ first end =
 
 -- the derived roles after one more field, and the field's mark: 0 where it is not kept, else one more than the place of its derived role
 unfoldable pub next_entries : List Entry → Option Entry → List Entry
-next_entries es none = es
-next_entries es (some e) = add_new same es e
+next_entries es None = es
+next_entries es (Some e) = add_new same es e
 
 unfoldable pub mark_of : List Entry → Option Entry → ℕ
-mark_of es none = 0
-mark_of es (some e) = suc (place_of same e es)
+mark_of es None = 0
+mark_of es (Some e) = suc (place_of same e es)
 
 -- the masks in turn, of which g says what a field with each gives, with the derived roles es so far
 unfoldable pub derived_from : (ℕ → Option Entry) → List Entry → List ℕ → List Entry

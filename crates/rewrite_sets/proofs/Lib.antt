@@ -1,4 +1,3 @@
 pub mod UnionLaws
 pub mod SetsLaws
-pub mod MarkLaws
 pub mod RoleLaws

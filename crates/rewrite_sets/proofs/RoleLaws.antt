@@ -5,7 +5,7 @@
 use Prim.Native.Nat.{ℕ, zero, suc, ◌≤◌, ◌<◌}
 use mathlib.Core.Path.{◌≡◌, refl, sym, ◌∙◌, ap, ap₂}
 use mathlib.Core.Bool.{Bool, true, false, not, ◌&&◌, ◌||◌, and-false, and_assoc, and-or_distrib_left}
-use mathlib.Core.Option.{none, some}
+use Rattle.std.proofs.Common.{None, Some}
 use mathlib.Core.List.{List, [], ◌∷◌}
 use native.Mathlib.Nat.{lt_of_lt_of_le}
 use native.Mathlib.Omega.{arith}
@@ -138,6 +138,6 @@ kept-by ρ w r m =
     ∙ go (has m (slot_of (role_hours ρ r))) (users_in ρ r m) (permissions_in ρ r m)
   where
     go : (b : Bool) (u p : ℕ) → kept_with r (pick b (sets_made u p) (sets_made 0 0))
-        ≡ pick (b && not (eqb u 0) && not (eqb p 0)) (some (record { source = r; users = u; permissions = p })) none
+        ≡ pick (b && not (eqb u 0) && not (eqb p 0)) (Some (record { source = r; users = u; permissions = p })) None
     go true u p = refl
     go false u p = refl

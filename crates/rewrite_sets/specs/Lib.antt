@@ -1,2 +1,1 @@
 pub mod Role
-pub mod Mark

@@ -1,11 +1,10 @@
 -- A role by hours: what it has in a field with a given mask, and the role that a rota's rows make.
-use Rattle.std.specs.Prelude.{ℕ, ◌≡◌, not, ◌&&◌, List, eqb}
-use Rattle.std.proofs.Math.Option.{Option, none, some}
+use Rattle.std.specs.Prelude.{ℕ, ◌≡◌, not, ◌&&◌, List, eqb, Option, None, Some, IfSome}
 use Rattle.ground.specs.Believed.Choice.{pick}
 use Rattle.ground.specs.Believed.Search.{any}
 use Rattle.ground.specs.Believed.Sequence.{list_of}
 use Rattle.bitset.specs.Believed.Sets.{has, set_of}
-use Rattle.rewrite_unions.specs.Union.{union_of, used_in}
+use Rattle.rewrite_unions.specs.Union.{union_of, all_of}
 use Rattle.rota.specs.Believed.Rota as rota
 use Rattle.table.specs.Believed.Table.{Entry}
 use Rattle.rewrite_rules.specs.Masks.{slot_of}
@@ -25,17 +24,21 @@ entry_of source x = record { source = source; users = x.users; permissions = x.p
 
 -- a field is kept where neither set is empty
 abbrev pub kept_with : ℕ → Sets → Option Entry
-kept_with source x = pick (not (eqb x.users 0) && not (eqb x.permissions 0)) (some (entry_of source x)) none
-
--- two sets that keep a field with mask m as the role's own do, out of all its users and all its permissions
-pub record Gathered (on : ℕ) (users permissions : List ℕ) (m : ℕ) (x : Sets) : Type 0 where
-  pub kept : (source : ℕ) → kept_with source x ≡ kept_with source (sets_in on users permissions m)
-  pub users-within : Within x.users (union_of users (used_in users) 33)
-  pub permissions-within : Within x.permissions (union_of permissions (used_in permissions) 33)
+kept_with source x = pick (not (eqb x.users 0) && not (eqb x.permissions 0)) (Some (entry_of source x)) None
 
 -- what a field with mask m gives for the role
 unfoldable pub kept_by : Role → ℕ → Option Entry
 kept_by ρ m = kept_with ρ.source (sets_in ρ.on ρ.users ρ.permissions m)
+
+-- the entry of two sets, where there are some
+abbrev pub entry_with : ℕ → Option Sets → Option Entry
+entry_with source None = None
+entry_with source (Some x) = Some (entry_of source x)
+
+-- the two sets of a field with mask m, where there are some: what it gives for the role, out of all its users and all its permissions
+pub record Gathered (ρ : Role) (m : ℕ) (o : Option Sets) : Type 0 where
+  pub kept : entry_with ρ.source o ≡ kept_by ρ m
+  pub within : IfSome o (λ x. Within x.users (all_of ρ.users) × Within x.permissions (all_of ρ.permissions))
 
 -- the numbers that some row gives to role r in slot k
 unfoldable pub at_slot : List rota.Row → ℕ → ℕ → ℕ

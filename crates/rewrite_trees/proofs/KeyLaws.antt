@@ -1,6 +1,5 @@
 -- Single keys of 32 bits as pairs of sets.
 --     users-key, permissions-key    the two sets of a key's pair
---     other_key                     another key is another pair
 --     key-within, nothing-within    what the index asks of them
 --     key-small                     a key of the index has 32 bits
 -- Assumes nothing.
@@ -33,10 +32,6 @@ permissions-key [] k = refl
 permissions-key (x ∷ keys) zero = refl
 permissions-key (x ∷ keys) (suc k) =
     let e : 2 * suc k + 1 ≡ suc (suc (2 * k + 1)) = omega arith in ap (λ (j : ℕ). get_or (x ∷ 0 ∷ key_pairs keys) j 0) e ∙ permissions-key keys k
-
--- another key is another pair
-pub other_key : (keys : List ℕ) (k m : ℕ) → (get_or keys k 0 ≡ m → ⊥) → users_at (key_pairs keys) k ≡ m → permissions_at (key_pairs keys) k ≡ 0 → ⊥
-other_key keys k m ne eu ep = ne (sym (users-key keys k) ∙ eu)
 
 -- ---- their members
 

@@ -13,7 +13,7 @@ use Rattle.ground.specs.Believed.Search.{one, count_below}
 use Rattle.ground.proofs.BoolLaws.{clash, eq-ext}
 use Rattle.bitset.specs.Believed.Sets.{has, remove, count, Lowest}
 use Rattle.bitset.proofs.SetLaws.{count_low, ext, has-none, remove-self, remove-other}
-use Rattle.rewrite_trees.specs.Tree.{answers, turns_of, Turned, bucket_of, Within}
+use Rattle.rewrite_trees.specs.Tree.{answers, turns_of, TurnedBy, Turned, bucket_of, Within}
 
 -- ---- what is said of the numbers that pass
 
@@ -121,23 +121,22 @@ module _ (a i : ℕ) (low : Lowest a i) (h : i < 64) where
       answers-first 64 (has a) (has (remove a i)) (has x) i h low.member low.below (remove-self a i h) (remove-other a i)
       ∙ ap (λ (z : ℕ). has x i ∷ answers 64 (has z) (has x)) (sym e)
 
-module _ (a b u p i r s : ℕ) where
-  pub turned-users : Lowest a i → i < 64 → s ≡ one (has u i) → r ≡ remove a i → Turned a b u p (record { side = s; users = r; permissions = b })
+module _ (a b u p : ℕ) {side left : ℕ} where
+  pub turned-users : TurnedBy a u side left → Turned a b u p (record { side = side; users = left; permissions = b })
   unfolding turns_of
-  turned-users low h es er =
-      record { bit = has u i; to = es; first = ap (λ (l : List Bool). l ++ answers 64 (has b) (has p)) (answers-take a i low h u r er); none = λ e. e }
+  turned-users t =
+      record { bit = has u t.member; to = t.to; first = ap (λ (l : List Bool). l ++ answers 64 (has b) (has p)) (answers-take a t.member t.lowest t.small u left t.without) }
 
-  pub turned-permissions : a ≡ 0 → Lowest b i → i < 64 → s ≡ one (has p i) → r ≡ remove b i → Turned a b u p (record { side = s; users = 0; permissions = r })
+  pub turned-permissions : a ≡ 0 → TurnedBy b p side left → Turned a b u p (record { side = side; users = 0; permissions = left })
   unfolding turns_of
-  turned-permissions z low h es er =
+  turned-permissions z t =
       let none : answers 64 (has 0) (has u) ≡ [] = answers-none 64 (has 0) (has u) has-none in
       record {
-        bit = has p i;
-        to = es;
+        bit = has p t.member;
+        to = t.to;
         first =
-            ap₂ (λ (l m : List Bool). l ++ m) (ap (λ (x : ℕ). answers 64 (has x) (has u)) z ∙ none) (answers-take b i low h p r er)
-            ∙ ap (λ (l : List Bool). has p i ∷ (l ++ answers 64 (has r) (has p))) (sym none);
-        none = λ e. clash (has b i) low.member (ap (λ (x : ℕ). has x i) e ∙ has-none i);
+            ap₂ (λ (l m : List Bool). l ++ m) (ap (λ (x : ℕ). answers 64 (has x) (has u)) z ∙ none) (answers-take b t.member t.lowest t.small p left t.without)
+            ∙ ap (λ (l : List Bool). has p t.member ∷ (l ++ answers 64 (has left) (has p))) (sym none);
       }
 
 -- where no member is left there are no turns

@@ -12,6 +12,7 @@ use lib.Seq.{get_or-drop, drop-drop, ext_get_or}
 use borrow.Author.Count.{below_more}
 use borrow.Author.Tests.{eqb-true, eqb-false}
 use Rattle.ground.specs.Believed.Search.{one}
+use Rattle.ground.proofs.BoolLaws.{clash}
 use Rattle.bitset.specs.Believed.Sets.{count}
 use Rattle.rewrite_trees.specs.declared.Turn.{Turn}
 use Rattle.rewrite_trees.specs.Tree.{users_at, permissions_at, turns_of, turn_at, Turned, bucket_of, child_at, Comes, Within, Absent, Indexed, Ends}
@@ -95,6 +96,10 @@ pub record Seeking (w n : ℕ) (pairs links : List ℕ) (a b u p rest-a rest-b h
   pub left : drop steps (turns_of a b u p) ≡ turns_of rest-a rest-b u p
   pub ahead : (i t h : ℕ) → i < n → users_at pairs i ≡ u → permissions_at pairs i ≡ p → Comes w links (bucket_of w u p) (turn_at a b u p) t h → get_or links h 0 ≡ i + 1 → steps ≤ t
 
+-- a pair of which it is said that it is not the one is another
+pub other_pair : {said : Bool} {x y u v p q : ℕ} → (x ≡ v → y ≡ q → said ≡ true) → u ≡ v → p ≡ q → said ≡ false → x ≡ u → y ≡ p → ⊥
+other_pair {said} h eu ep f ex ey = clash said (h (ex ∙ eu) (ey ∙ ep)) f
+
 pub seek-start : (w n : ℕ) (pairs links : List ℕ) (a b u p hook : ℕ) → 0 < w → hook ≡ bucket_of w u p → Seeking w n pairs links a b u p a b hook
 seek-start w n pairs links a b u p hook t e =
     subst (Seeking w n pairs links a b u p a b) (sym e)
@@ -171,9 +176,6 @@ module _ {w n : ℕ} {pairs links : List ℕ} {a b u p rest-a rest-b hook : ℕ}
           ap (λ (i : ℕ). drop i (turns_of a b u p)) (sym (add-one s.steps))
           ∙ sym (drop-drop 1 s.steps (turns_of a b u p))
           ∙ ap (drop 1) (s.left ∙ turn.first)
-
-      pub side-small : t.side < 2
-      side-small = omega (arith, turn.to, one-small turn.bit)
 
       -- each turn takes one member
       pub left-falls : (count t.users + count t.permissions) + 1 ≡ count rest-a + count rest-b

@@ -1,10 +1,9 @@
 -- What the steps promise each other of the tree: the walk that seeks a pair of sets, and where it leads.
-use Rattle.std.specs.Prelude.{ℕ, zero, suc, ◌+◌, ◌*◌, ◌/◌, ◌%◌, ◌^◌, ◌≤◌, ◌<◌, Bool, true, false, ◌≡◌, List, [], ◌∷◌, ◌++◌, get_or}
+use Rattle.std.specs.Prelude.{ℕ, zero, suc, ◌+◌, ◌*◌, ◌/◌, ◌%◌, ◌^◌, ◌≤◌, ◌<◌, Bool, true, false, ◌≡◌, List, [], ◌∷◌, ◌++◌, get_or, Result, MatchResult}
 use Rattle.ground.specs.Believed.Choice.{pick}
 use Rattle.ground.specs.Believed.Search.{one}
-use Rattle.bitset.specs.Believed.Sets.{has}
+use Rattle.bitset.specs.Believed.Sets.{has, remove, Lowest}
 use Rattle.rewrite_trees.specs.declared.Turn.{Turn}
-use Rattle.rewrite_trees.specs.declared.Found.{Found}
 
 -- the two sets of pair k of a list: its users stand at place 2 k, and its permissions after them
 abbrev pub users_at : List ℕ → ℕ → ℕ
@@ -32,12 +31,19 @@ turns_of a b u p = answers 64 (has a) (has u) ++ answers 64 (has b) (has p)
 abbrev pub turn_at : ℕ → ℕ → ℕ → ℕ → ℕ → Bool
 turn_at a b u p s = get_or (turns_of a b u p) s false
 
+-- a turn by the lowest member of rest: to side 1 where x has it, else to side 0; and what is left without it
+pub record TurnedBy (rest x side left : ℕ) : Type 0 where
+  pub member : ℕ
+  pub small : member < 64
+  pub lowest : Lowest rest member
+  pub to : side ≡ one (has x member)
+  pub without : left ≡ remove rest member
+
 -- the first of the turns, and what is left to go by
 pub record Turned (a b u p : ℕ) (t : Turn) : Type 0 where
   pub bit : Bool
   pub to : t.side ≡ one bit
   pub first : turns_of a b u p ≡ bit ∷ turns_of t.users t.permissions u p
-  pub none : b ≡ 0 → t.permissions ≡ 0
 
 -- the place of the links where the walk that seeks u and p begins, one of w: the high halves and the low halves are spread by four multipliers, and of
 -- the square of the sum's middle 16 bits count, scaled to the number of trees; which place it is does not matter to what is promised
@@ -96,8 +102,8 @@ pub record Ends (w d : ℕ) (links : List ℕ) (a b u p hook : ℕ) : Type 0 whe
   pub comes : Comes w links (bucket_of w u p) (turn_at a b u p) steps hook
   pub free : get_or links hook 0 ≡ 0
 
--- a pair is found; or it is not there, and its walk has ended
-pub record Sought (w n : ℕ) (pairs links : List ℕ) (a b u p : ℕ) (f : Found) : Type 0 where
-  pub most : f.place ≤ n
-  pub here : f.place < n → (users_at pairs f.place ≡ u) × (permissions_at pairs f.place ≡ p)
-  pub absent : f.place ≡ n → Absent n pairs u p × Ends w n links a b u p f.hook
+-- a pair is found at its place; or it is not there, and its walk has ended at a place of the links
+abbrev pub Ended : ℕ → ℕ → List ℕ → List ℕ → ℕ → ℕ → ℕ → ℕ → Result ℕ ℕ → Type 0
+Ended w n pairs links a b u p r =
+    MatchResult r (λ k. (k < n) × (users_at pairs k ≡ u) × (permissions_at pairs k ≡ p))
+    (λ hook. Absent n pairs u p × Ends w n links a b u p hook)

@@ -6,10 +6,8 @@
 // such members, and one. An index of single keys of 32 bits, where each is one number of the list, is the same with a key as a pair of it and the empty set.
 #![tactic(auto)]
 
-ghost use Rattle.std.specs.Prelude.{◌≡◌, ◌+◌, ◌*◌, ◌<◌, ◌≤◌, length};
-ghost use Rattle.ground.specs.Believed.Search.{one};
-ghost use Rattle.bitset.specs.Believed.Sets.{has};
-ghost use Rattle.rewrite_trees.specs.Tree.{Turned, bucket_of, Within, key_pairs, Indexed, Sought};
+ghost use Rattle.std.specs.Prelude.{◌≡◌, ◌↔◌, List, ℕ, ◌+◌, ◌*◌, ◌<◌, ◌≤◌, length, IsTrue};
+ghost use Rattle.rewrite_trees.specs.Tree.{users_at, permissions_at, TurnedBy, Turned, bucket_of, Within, key_pairs, Indexed, Ended};
 
 // A turn of a walk: to which side, and which members are left to go by.
 #[derive(Clone, Copy)]
@@ -19,19 +17,16 @@ pub struct Turn {
     pub permissions: u64,
 }
 
-// Where a pair was found; or, where there is none, the place of the links that would have it.
-#[derive(Clone, Copy)]
-pub struct Found {
-    pub place: usize,
-    pub hook: usize,
-}
-
-// 1 where i is a member, else 0.
-fn side(set: u64, i: u32) -> usize
-    requires { i < 64 }
-    ensures { result ≡ one (has set i) }
+// To which side `set` turns at the lowest member that is left of `rest`, 1 where it has it, and what is left then.
+fn turn_by(rest: u64, set: u64) -> (usize, u64)
+    requires { rest ≡ 0 → ⊥ }
+    ensures { TurnedBy rest set result.0 result.1 }
 {
-    if bitset::contains(set, i) { 1 } else { 0 }
+    let i = bitset::lowest(rest);
+    (
+        usize::from(bitset::contains(set, i)),
+        bitset::without(rest, i),
+    )
 }
 
 // The next turn of a walk that seeks u and p, by the lowest member that is left of a, or of b where none of a is left.
@@ -40,17 +35,17 @@ fn next_turn(a: u64, b: u64, u: u64, p: u64) -> Turn
     ensures { Turned a b u p result }
 {
     if a == 0 {
-        let i = bitset::lowest(b);
+        let (side, permissions) = turn_by(b, p);
         Turn {
-            side: side(p, i),
+            side,
             users: 0,
-            permissions: bitset::without(b, i),
+            permissions,
         }
     } else {
-        let i = bitset::lowest(a);
+        let (side, users) = turn_by(a, u);
         Turn {
-            side: side(u, i),
-            users: bitset::without(a, i),
+            side,
+            users,
             permissions: b,
         }
     }
@@ -69,7 +64,123 @@ fn bucket(u: u64, p: u64, w: usize) -> usize
     (y * y / 1048576 % 65536) as usize * w / 65536
 }
 
-// Where u and p stand among the first n pairs; or n, and where the walk that seeks them ends.
+// A pair that is sought in a list of pairs.
+trait Sought {
+    ghost list: { Self → List ℕ };
+
+    ghost users_sought: { Self → ℕ };
+
+    ghost permissions_sought: { Self → ℕ };
+
+    // The numbers of the pairs that can be looked at.
+    ghost reaches: { Self → ℕ → Type 0 };
+
+    fn users(&self) -> u64
+        ensures { result ≡ users_sought self.now };
+
+    fn permissions(&self) -> u64
+        ensures { result ≡ permissions_sought self.now };
+
+    // Pair k of the list is the one.
+    fn is_at(&self, k: usize) -> bool
+        requires { reaches self.now k }
+        ensures { IsTrue result ↔ ((users_at (list self.now) k ≡ users_sought self.now) × (permissions_at (list self.now) k ≡ permissions_sought self.now)) };
+}
+
+// A pair of sets among pairs of sets.
+#[derive(Clone, Copy)]
+struct Pair<'a> {
+    pairs: &'a [u64],
+    users: u64,
+    permissions: u64,
+}
+
+impl Sought for Pair<'_> {
+    ghost list = { λ s. s.pairs.now };
+
+    ghost users_sought = { λ s. s.users };
+
+    ghost permissions_sought = { λ s. s.permissions };
+
+    ghost reaches = { λ s k. 2 * k + 1 < length s.pairs.now };
+
+    fn users(&self) -> u64 {
+        self.users
+    }
+
+    fn permissions(&self) -> u64 {
+        self.permissions
+    }
+
+    fn is_at(&self, k: usize) -> bool {
+        self.pairs[2 * k] == self.users && self.pairs[2 * k + 1] == self.permissions
+    }
+}
+
+// A key among keys: a pair of it and the empty set.
+#[derive(Clone, Copy)]
+struct Key<'a> {
+    keys: &'a [u32],
+    key: u32,
+}
+
+impl Sought for Key<'_> {
+    ghost list = { λ s. key_pairs s.keys.now };
+
+    ghost users_sought = { λ s. s.key };
+
+    ghost permissions_sought = { λ s. 0 };
+
+    ghost reaches = { λ s k. k < length s.keys.now };
+
+    fn users(&self) -> u64 {
+        self.key as u64
+    }
+
+    fn permissions(&self) -> u64 {
+        0
+    }
+
+    fn is_at(&self, k: usize) -> bool {
+        self.keys[k] == self.key
+    }
+}
+
+// Where the walk that seeks a pair among the first n ends: at its number; or, where it is not there, at the place of the links that would have it.
+fn walk<S: Sought>(
+    sought: &S,
+    links: &[u16],
+    w: usize,
+    a: u64,
+    b: u64,
+    n: usize,
+) -> Result<usize, usize>
+    requires n_in_bounds { (w + 2 * n ≤ length links.now) × (n < 33345) × (0 < w) × (w ≤ 65536) × ((k : ℕ) → k < n → S.reaches sought.now k) }
+    requires indexed { Indexed w n (S.list sought.now) links.now a b × Within (S.users_sought sought.now) a × Within (S.permissions_sought sought.now) b }
+    ensures { Ended w n (S.list sought.now) links.now a b (S.users_sought sought.now) (S.permissions_sought sought.now) result }
+{
+    let u = sought.users();
+    let p = sought.permissions();
+    let mut rest_a = a;
+    let mut rest_b = b;
+    let mut hook = bucket(u, p, w);
+    loop {
+        let c = links[hook] as usize;
+        if c == 0 {
+            return Err(hook);
+        }
+        let k = c - 1;
+        if sought.is_at(k) {
+            return Ok(k);
+        }
+        let t = next_turn(rest_a, rest_b, u, p);
+        hook = w + 2 * k + t.side;
+        rest_a = t.users;
+        rest_b = t.permissions;
+    }
+}
+
+// Where u and p stand among the first n pairs; or the place of the links that would have them.
 pub fn find(
     pairs: &[u64],
     links: &[u16],
@@ -79,51 +190,24 @@ pub fn find(
     n: usize,
     u: u64,
     p: u64,
-) -> Found
+) -> Result<usize, usize>
     requires n_in_bounds { (2 * n ≤ length pairs.now) × (w + 2 * n ≤ length links.now) × (n < 33345) × (0 < w) × (w ≤ 65536) }
     requires indexed { Indexed w n pairs.now links.now a b × Within u a × Within p b }
-    ensures { Sought w n pairs.now links.now a b u p result }
+    ensures { Ended w n pairs.now links.now a b u p result }
 {
-    let mut rest_a = a;
-    let mut rest_b = b;
-    let mut hook = bucket(u, p, w);
-    loop {
-        let c = links[hook] as usize;
-        if c == 0 {
-            return Found { place: n, hook };
-        }
-        let k = c - 1;
-        if pairs[2 * k] == u {
-            if pairs[2 * k + 1] == p {
-                return Found { place: k, hook };
-            }
-        }
-        let t = next_turn(rest_a, rest_b, u, p);
-        hook = w + 2 * k + t.side;
-        rest_a = t.users;
-        rest_b = t.permissions;
-    }
+    let sought = Pair {
+        pairs,
+        users: u,
+        permissions: p,
+    };
+    walk(&sought, links, w, a, b, n)
 }
 
-// Where m stands among the first n keys; or n, and where the walk that seeks it ends.
-pub fn find_key(keys: &[u32], links: &[u16], w: usize, n: usize, m: u32) -> Found
+// Where m stands among the first n keys; or the place of the links that would have it.
+pub fn find_key(keys: &[u32], links: &[u16], w: usize, n: usize, m: u32) -> Result<usize, usize>
     requires n_in_bounds { (n ≤ length keys.now) × (w + 2 * n ≤ length links.now) × (n < 33345) × (0 < w) × (w ≤ 65536) }
     requires indexed { Indexed w n (key_pairs keys.now) links.now 4294967295 0 }
-    ensures { Sought w n (key_pairs keys.now) links.now 4294967295 0 m 0 result }
+    ensures { Ended w n (key_pairs keys.now) links.now 4294967295 0 m 0 result }
 {
-    let mut rest = 4294967295;
-    let mut hook = bucket(m as u64, 0, w);
-    loop {
-        let link = links[hook] as usize;
-        if link == 0 {
-            return Found { place: n, hook };
-        }
-        let key = link - 1;
-        if keys[key] == m {
-            return Found { place: key, hook };
-        }
-        let turn = next_turn(rest, 0, m as u64, 0);
-        hook = w + 2 * key + turn.side;
-        rest = turn.users;
-    }
+    walk(&Key { keys, key: m }, links, w, 4294967295, 0, n)
 }

@@ -1,8 +1,9 @@
 -- A table of unions: its groups one by one, and what is looked up in it.
 --     two-filled                   four stores are a run of stores
 --     four-filled                  four runs of stores are the choices among four sets
---     filled_none, filled_more     no group, and one more
---     tabled-some, tabled-most     no slot is in use after the groups; all groups
+--     filled_more                  one group more
+--     tabled-some                  no slot is in use after the groups
+--     ready-none                   sets without members
 --     tabled-turn, tabled-all      one group more of a union; the groups, and then slot 32
 -- Assumes nothing.
 use Prim.Native.Nat.{ℕ, zero, suc, ◌+◌, ◌-◌, ◌*◌, ◌/◌, ◌%◌, ◌^◌, ◌≤◌, ◌<◌}
@@ -13,18 +14,19 @@ use mathlib.Core.List.{List, [], ◌∷◌, ◌++◌}
 use native.Mathlib.Nat.{not-suc-le-zero}
 use native.Mathlib.Omega.{arith}
 use lib.Dec.{eqb}
-use lib.ListN.{length, get_or, drop, set, length-set}
+use lib.ListN.{replicate, length, get_or, drop, set, length-set}
 use lib.Seq.{sets, get_or-set_same, get_or-set_other, get_or-drop, length-sets}
+use lib.Pow.{pow_pos}
 use borrow.Author.Tests.{eqb-true}
 use Rattle.ground.specs.Believed.Sequence.{list_of}
 use Rattle.ground.proofs.BoolLaws.{lt-or-le}
 use Rattle.ground.proofs.SequenceLaws.{get-list_of, list_of-length}
 use Rattle.endian.proofs.WrittenLaws.{sets-twice}
 use Rattle.bitset.specs.Believed.Sets.{has, union}
-use Rattle.bitset.proofs.SetLaws.{has-none, has-shifted}
+use Rattle.bitset.proofs.SetLaws.{has-none, has-shifted, set_of-has}
 use Rattle.rewrite_unions.specs.Union.{union_of, in_use, used_in}
-use Rattle.rewrite_unions.specs.Tables.{with_two, choices, Tabled}
-use Rattle.rewrite_unions.proofs.UnionLaws.{union-lt, used-at}
+use Rattle.rewrite_unions.specs.Tables.{with_two, choices, Tabled, Ready}
+use Rattle.rewrite_unions.proofs.UnionLaws.{union-none, union-lt, used-at, not-in-use}
 use Rattle.rewrite_unions.proofs.SplitLaws.{has-low, union-zero, union-same, union-low, union-split, union-group, union-rest}
 
 -- ---- the choices among four sets
@@ -117,9 +119,6 @@ stored-size l m i vs e h = ap length e ∙ length-sets l i vs ∙ h
 abbrev pub Filled : List ℕ → List ℕ → ℕ → Type 0
 Filled slots table g = (q v : ℕ) → q < g → v < 16 → get_or table (16 * q + v) 0 ≡ union_of (drop (4 * q) slots) v 4
 
-pub filled_none : (slots table : List ℕ) → Filled slots table 0
-filled_none slots table q v l h = absurd (not-suc-le-zero l)
-
 -- four sets one after the other
 abbrev four_from : List ℕ → ℕ → List ℕ
 four_from slots k = get_or slots k 0 ∷ get_or slots (k + 1) 0 ∷ get_or slots (k + 2) 0 ∷ get_or slots (k + 3) 0 ∷ []
@@ -172,9 +171,6 @@ module _ (slots table : List ℕ) (g : ℕ) (f : Filled slots table g) where
   pub tabled-some : (used low : ℕ) → g ≤ 8 → used ≡ used_in slots → low ≡ used % 2 ^ 32 → low / 2 ^ (4 * g) ≡ 0 → Tabled slots table g
   tabled-some used low h e el z = record { few = h; each = f; none = rest-none slots used low g e el z }
 
-  pub tabled-most : g ≤ 8 → 8 ≤ g → Tabled slots table g
-  tabled-most h m = record { few = h; each = f; none = λ k a b. absurd (omega arith) }
-
 -- ---- what is looked up
 
 module _ (slots table : List ℕ) (g m : ℕ) (t : Tabled slots table g) where
@@ -188,3 +184,20 @@ module _ (slots table : List ℕ) (g m : ℕ) (t : Tabled slots table g) where
   tabled-all q x e ex =
       let n : 4 * g + (32 - 4 * g) ≡ 32 = omega (arith, t.few) in
       ex ∙ ap (λ (k : ℕ). union_of slots m (4 * k)) e ∙ union-rest slots m (4 * g) (32 - 4 * g) (λ j a b. t.none j a (omega arith)) ∙ ap (union_of slots m) n
+
+-- ---- sets without members
+
+zero-at : (n k : ℕ) → get_or (replicate {A = ℕ} n 0) k 0 ≡ 0
+zero-at zero k = refl
+zero-at (suc n) zero = refl
+zero-at (suc n) (suc k) = zero-at n k
+
+-- all that is to be known of sets without members
+pub ready-none : (table : List ℕ) → Ready (replicate 33 0) 0 table 0 0
+ready-none table =
+    record {
+      fit = λ k. omega (arith, zero-at 33 k);
+      used-are = unfold used_in in set_of-has 33 0 (in_use (replicate 33 0)) (pow_pos 33) (λ i l. has-none i ∙ sym (not-in-use (replicate 33 0) i (zero-at 33 i)));
+      tabled = record { few = omega arith; each = λ q v l h. absurd (omega arith); none = λ k a b. zero-at 33 k };
+      all_are = union-none (replicate 33 0) (used_in (replicate 33 0)) ∙ union-rest (replicate 33 0) (used_in (replicate 33 0)) 0 33 (λ j a b. zero-at 33 j);
+    }

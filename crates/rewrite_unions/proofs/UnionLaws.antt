@@ -1,6 +1,6 @@
 -- The union over a mask: its members, and the slots of the mask that are in use, of which alone it is made.
 -- Assumes nothing.
-use Prim.Native.Nat.{ℕ, zero, suc, ◌+◌, ◌-◌, ◌/◌, ◌^◌, ◌≤◌, ◌<◌}
+use Prim.Native.Nat.{ℕ, zero, suc, ◌+◌, ◌^◌, ◌≤◌, ◌<◌}
 use mathlib.Core.Path.{◌≡◌, refl, sym, ◌∙◌, ap, ap₂}
 use mathlib.Core.Bool.{Bool, true, false, not, ◌&&◌, ◌||◌, or-false}
 use mathlib.Core.List.{List}
@@ -12,9 +12,10 @@ use lib.Pow.{pow_pos}
 use borrow.Author.Tests.{eq-eqb, ne_eqb, eqb-true}
 use Rattle.ground.specs.Believed.Choice.{pick}
 use Rattle.ground.specs.Believed.Search.{any_below}
-use Rattle.ground.proofs.BoolLaws.{clash, and_left}
-use Rattle.bitset.specs.Believed.Sets.{has, set_of, union, intersection, Lowest}
-use Rattle.bitset.proofs.SetLaws.{has-none, has-below, has-union, has-intersection, has-shifted, set_of-lt, union-nothing}
+use Rattle.ground.proofs.BoolLaws.{clash, and_left, and_right, and_both}
+use Rattle.ground.proofs.SearchLaws.{any_out, any-stop}
+use Rattle.bitset.specs.Believed.Sets.{has, set_of, union, intersection}
+use Rattle.bitset.proofs.SetLaws.{intersection-of, member-out, some-member, has-none, has-below, has-union, has-intersection, set_of-lt, union-nothing}
 use Rattle.rewrite_unions.specs.Union.{in_use, used_in, union_of}
 
 -- ---- one slot more
@@ -73,15 +74,17 @@ pub used-at : (sets : List ℕ) (k : ℕ) → k < 33 → has (used_in sets) k �
 unfolding used_in
 used-at sets k h = has-below 33 (in_use sets) k h
 
--- ---- from slot to slot
+-- ---- no slot of the mask in use
 
-module _ (sets : List ℕ) (m s : ℕ) (es : s ≡ intersection m (used_in sets)) where
-  slot_at : (i : ℕ) → i < 33 → has s i ≡ (has m i && in_use sets i)
-  slot_at i h = ap (λ (x : ℕ). has x i) es ∙ has-intersection m (used_in sets) i (omega arith) ∙ ap (λ (b : Bool). has m i && b) (used-at sets i h)
+module _ (sets : List ℕ) (m s : ℕ) (es : s ≡ intersection m (used_in sets)) (z : s ≡ 0) where
+  unused : (i : ℕ) → i < 33 → (has m i && in_use sets i) ≡ false
+  unused i h =
+      ap (λ (b : Bool). has m i && b) (sym (used-at sets i h)) ∙ sym (has-intersection m (used_in sets) i (omega arith))
+      ∙ ap (λ (x : ℕ). has x i) (sym es ∙ z) ∙ has-none i
 
   -- a slot that is not in the mask or not in use adds nothing
-  pass : (i : ℕ) → i < 33 → has s i ≡ false → union_of sets m i ≡ union_of sets m (i + 1)
-  pass i h e = go (has m i) (eqb (get_or sets i 0) 0) refl refl (sym (slot_at i h) ∙ e)
+  pass : (i : ℕ) → i < 33 → union_of sets m i ≡ union_of sets m (i + 1)
+  pass i h = go (has m i) (eqb (get_or sets i 0) 0) refl refl (unused i h)
     where
       go : (b t : Bool) → has m i ≡ b → eqb (get_or sets i 0) 0 ≡ t → (has m i && in_use sets i) ≡ false → union_of sets m i ≡ union_of sets m (i + 1)
       go false t f g w = union-without sets m i (union_of sets m i) refl (union_of sets m i) f refl
@@ -90,34 +93,37 @@ module _ (sets : List ℕ) (m s : ℕ) (es : s ≡ intersection m (used_in sets)
           (union-nothing (union_of sets m i) (union-lt m sets i) ∙ ap (union (union_of sets m i)) (sym (eqb-true (get_or sets i 0) 0 g)))
       go true false f g w = clash true refl (rw (f, g) at w)
 
-  skip : (g n : ℕ) → n + g ≤ 33 → ((j : ℕ) → j < g → has s (n + j) ≡ false) → union_of sets m n ≡ union_of sets m (n + g)
-  skip zero n h f = let e : n ≡ n + 0 = omega arith in ap (union_of sets m) e
-  skip (suc g) n h f =
-      let e : (n + g) + 1 ≡ n + suc g = omega arith in
-      skip g n (omega arith) (λ j l. f j (omega arith)) ∙ pass (n + g) (omega arith) (f g (omega arith)) ∙ ap (union_of sets m) e
+  none-to : (n : ℕ) → n ≤ 33 → 0 ≡ union_of sets m n
+  none-to zero h = union-none sets m
+  none-to (suc n) h = none-to n (omega arith) ∙ pass n (omega arith) ∙ ap (union_of sets m) (add-one n)
 
-  module _ (x n : ℕ) (e : x ≡ union_of sets m n) (hn : n ≤ 33) where
-    rest-none : ((j : ℕ) → j < 33 - n → has (s / 2 ^ n) j ≡ false) → x ≡ union_of sets m 33
-    rest-none f =
-        let q : n + (33 - n) ≡ 33 = omega arith in
-        e ∙ skip (33 - n) n (omega arith) (λ j l. sym (has-shifted s n j) ∙ f j l) ∙ ap (union_of sets m) q
+  pub union-empty : 0 ≡ union_of sets m 33
+  union-empty = none-to 33 (omega arith)
 
-    -- no slot is left
-    pub union-done : s / 2 ^ n ≡ 0 → x ≡ union_of sets m 33
-    union-done z = rest-none (λ j l. ap (λ (y : ℕ). has y j) z ∙ has-none j)
+-- ---- a slot of the mask in use
 
-    module _ (r : ℕ) (low : Lowest (s / 2 ^ n) r) where
-      pub union-past : 33 ≤ n + r → x ≡ union_of sets m 33
-      union-past h = rest-none (λ j l. low.below j (omega arith))
+has-one-of : (sets : List ℕ) (m k x : ℕ) → k < 33 → x < 64 → has m k ≡ true → has (get_or sets k 0) x ≡ true → has (union_of sets m 33) x ≡ true
+has-one-of sets m k x l h p q =
+    has-union-of m sets 33 x h ∙ any-stop (λ j. has m j && has (get_or sets j 0) x) 33 k l (and_both (has m k) (has (get_or sets k 0) x) p q)
 
-      -- the lowest that is left
-      pub union-turn : (y : ℕ) → n + r < 33 → y ≡ union x (get_or sets (n + r) 0) → y ≡ union_of sets m ((n + r) + 1)
-      union-turn y h q =
-          union-with sets m (n + r) x (e ∙ skip r n (omega arith) (λ j l. sym (has-shifted s n j) ∙ low.below j l)) y
-          (and_left (has m (n + r)) (in_use sets (n + r)) (sym (slot_at (n + r) h) ∙ sym (has-shifted s n r) ∙ low.member)) q
+union-member : (sets : List ℕ) (m k : ℕ) → k < 33 → has m k ≡ true → in_use sets k ≡ true → get_or sets k 0 < 2 ^ 64 → union_of sets m 33 ≡ 0 → ⊥
+union-member sets m k l p q fits z =
+    let there : get_or sets k 0 ≡ 0 → ⊥ = λ e. clash (in_use sets k) q (not-in-use sets k e) in
+    let x = any_out 64 (has (get_or sets k 0)) (some-member 64 (get_or sets k 0) (omega arith) fits) in
+    clash (has 0 x.0) (ap (λ (y : ℕ). has y x.0) (sym z) ∙ has-one-of sets m k x.0 l x.1 p x.2) (has-none x.0)
 
--- ---- no slot
+union-some : (sets : List ℕ) (m : ℕ) → ((k : ℕ) → get_or sets k 0 < 2 ^ 64) → not (eqb (set_of 33 (λ i. has m i && in_use sets i)) 0) ≡ true → union_of sets m 33 ≡ 0 → ⊥
+union-some sets m fits some =
+    let k = member-out 33 (λ i. has m i && in_use sets i) some in
+    union-member sets m k.0 k.1 (and_left (has m k.0) (in_use sets k.0) k.2) (and_right (has m k.0) (in_use sets k.0) k.2) (fits k.0)
 
--- where no slot of the mask is in use
-pub union-empty : (sets : List ℕ) (m s : ℕ) → s ≡ intersection m (used_in sets) → s ≡ 0 → 0 ≡ union_of sets m 33
-union-empty sets m s e z = union-done sets m s e 0 0 (union-none sets m) (omega arith) (omega arith)
+-- whether the union has a member is whether a slot of the mask is in use
+pub union-meets : (sets : List ℕ) (m s : ℕ) → ((k : ℕ) → get_or sets k 0 < 2 ^ 64) → s ≡ intersection m (used_in sets) → eqb s 0 ≡ eqb (union_of sets m 33) 0
+union-meets sets m s fits es = go (eqb s 0) refl
+  where
+    e : s ≡ set_of 33 (λ i. has m i && in_use sets i)
+    e = unfold used_in in es ∙ intersection-of 33 m (in_use sets) (omega arith)
+
+    go : (b : Bool) → eqb s 0 ≡ b → b ≡ eqb (union_of sets m 33) 0
+    go true q = sym (eq-eqb (union_of sets m 33) 0 (sym (union-empty sets m s es (eqb-true s 0 q))))
+    go false q = sym (ne_eqb (union_of sets m 33) 0 (union-some sets m fits (ap (λ (x : ℕ). not (eqb x 0)) (sym e) ∙ ap not q)))

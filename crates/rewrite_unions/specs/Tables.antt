@@ -1,9 +1,9 @@
 -- A table of unions: for each group of four slots the union of every choice among them.
-use Rattle.std.specs.Prelude.{ℕ, ◌+◌, ◌*◌, ◌≤◌, ◌<◌, ◌≡◌, List, [], ◌∷◌, get_or, drop}
+use Rattle.std.specs.Prelude.{ℕ, ◌+◌, ◌*◌, ◌^◌, ◌≤◌, ◌<◌, ◌≡◌, List, [], ◌∷◌, get_or, drop}
 use Rattle.std.proofs.lemmas.List.Edits.{sets}
 use Rattle.ground.specs.Believed.Sequence.{list_of}
 use Rattle.bitset.specs.Believed.Sets.{union}
-use Rattle.rewrite_unions.specs.Union.{union_of}
+use Rattle.rewrite_unions.specs.Union.{union_of, used_in, all_of}
 
 -- a table with these values in the places from `at` on
 abbrev pub stored : List ℕ → ℕ → List ℕ → List ℕ
@@ -22,3 +22,10 @@ pub record Tabled (slots table : List ℕ) (g : ℕ) : Type 0 where
   pub few : g ≤ 8
   pub each : (q v : ℕ) → q < g → v < 16 → get_or table (16 * q + v) 0 ≡ union_of (drop (4 * q) slots) v 4
   pub none : (k : ℕ) → 4 * g ≤ k → k < 32 → get_or slots k 0 ≡ 0
+
+-- sets by slot, each of 64: which slots are in use, the table of unions, and all of them together
+pub record Ready (slots : List ℕ) (used : ℕ) (table : List ℕ) (groups all : ℕ) : Type 0 where
+  pub fit : (k : ℕ) → get_or slots k 0 < 2 ^ 64
+  pub used-are : used ≡ used_in slots
+  pub tabled : Tabled slots table groups
+  pub all_are : all ≡ all_of slots

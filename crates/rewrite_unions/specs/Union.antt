@@ -14,3 +14,7 @@ in_use sets k = not (eqb (get_or sets k 0) 0)
 
 unfoldable pub used_in : List ℕ → ℕ
 used_in sets = set_of 33 (in_use sets)
+
+-- the union of all
+abbrev pub all_of : List ℕ → ℕ
+all_of sets = union_of sets (used_in sets) 33

@@ -1,6 +1,6 @@
 -- The counts of the header, field by field.
 -- Assumes nothing.
-use Prim.Native.Nat.{ℕ, ◌+◌, ◌*◌, ◌≤◌, ◌<◌}
+use Prim.Native.Nat.{ℕ, ◌+◌, ◌*◌, ◌≤◌}
 use mathlib.Core.Path.{◌≡◌, ap}
 use mathlib.Core.List.{List}
 use native.Mathlib.Omega.{arith}
@@ -9,10 +9,10 @@ use Rattle.ground.specs.Believed.Judgement.{in_turn}
 use Rattle.hours.specs.Believed.HoursBytes.{record_at}
 use Rattle.hours.specs.Believed.HoursRefusals.{record_judged}
 use Rattle.rota.specs.Believed.RotaBytes.{header_length, format_of, cycle_of, hours_of, users_of, permissions_of, roles_of, user_rows_of, permission_rows_of, roles_at, user_rows_at, permission_rows_at}
-use Rattle.rota.specs.Believed.RotaRefusals.{header_judged}
 use Rattle.rota.specs.Believed.Answers.{counts_of}
 use Rattle.rota.specs.Inside.{layout_of, Measured, RowsKnown}
 use Rattle.rota.specs.declared.Counts.{Counts}
+use Rattle.rota.specs.declared.Rows.{Rows}
 use Rattle.rota.proofs.RotaFine.{HeaderFine}
 
 pub record CountsAre (s : List ℕ) (n : Counts) : Type 0 where
@@ -60,22 +60,6 @@ module _ (s : List ℕ) where
   unfolding layout_of
   layout-by n hours at first second e h p q r = λ i. record { counts = e i; hours_at = h i; roles_at = p i; user_rows_at = q i; permission_rows_at = r i }
 
-  pub measured : (n : Counts) (at : ℕ) → header_judged s ≡ 0 → n ≡ counts_of s → at ≡ roles_at s → at ≤ length s
-      → Measured s n.hours n.users n.permissions n.roles n.user_rows n.permission_rows at
-  measured n at h e p w =
-      let a = counts-are n e in
-      record {
-        header = h;
-        hours = a.hours;
-        users-are = a.users;
-        permissions-are = a.permissions;
-        roles-are = a.roles;
-        user-rows = a.user-rows;
-        permission-rows = a.permission-rows;
-        ends = p;
-        within = w;
-      }
-
 -- the walk over the hours records with the header's own cycle, length and count
 module _ {s : List ℕ} {n : Counts} {from : ℕ} (a : CountsAre s n) (b : from ≡ header_length s) where
   pub records-as : {e : ℕ} → e ≡ in_turn (record_judged s n.cycle from) n.hours → e ≡ in_turn (record_judged s (cycle_of s) (header_length s)) (hours_of s)
@@ -85,15 +69,14 @@ module _ {s : List ℕ} {n : Counts} {from : ℕ} (a : CountsAre s n) (b : from 
   records-end h = rw (b, a.hours) at h
 
 -- rows within the bytes, with the header's counts
-pub rows-known : {s : List ℕ} {h users permissions roles a b at : ℕ} → Measured s h users permissions roles a b at → HeaderFine s → (n top from m : ℕ)
-    → 0 < n → from + 3 * m ≤ length s → top ≤ 64 → RowsKnown n s h roles top from m
-rows-known w f n top from m some within few =
+pub rows-known : {s : List ℕ} {n : Counts} {at : ℕ} → Measured s n at → HeaderFine s → (rows : Rows) → rows.at + 3 * rows.n ≤ length s → rows.top ≤ 64 → RowsKnown s n rows
+rows-known {s} {n} w f rows within few =
+    let a = counts-are s n w.counts in
     record {
-      number = some;
       within = within;
-      hours = w.hours;
-      roles-are = w.roles-are;
-      hours-most = omega (arith, w.hours, f.hours-most);
-      roles-most = omega (arith, w.roles-are, f.roles-most);
+      hours = a.hours;
+      roles-are = a.roles;
+      hours-most = omega (arith, a.hours, f.hours-most);
+      roles-most = omega (arith, a.roles, f.roles-most);
       top-most = few;
     }

@@ -15,7 +15,9 @@ use Rattle.rota.specs.Believed.RotaBytes.{header_length, cycle_of, hours_of, use
 use Rattle.rota.specs.Believed.RotaRefusals.{header_judged, role_judged, row_judged, rota_judged}
 use Rattle.rota.specs.Believed.Answers.{counts_of, read_outcome}
 use Rattle.rota.specs.Inside.{rest_judged, layout_of, layout_outcome, Measured}
+use Rattle.rota.specs.declared.Counts.{Counts}
 use Rattle.rota.specs.declared.Layout.{Layout}
+use Rattle.rota.proofs.CountsLaws.{CountsAre, counts-are}
 
 -- rows judged with other names for the same counts
 pub rows_as : (s : List ℕ) (n : ℕ) {top u at i a m : ℕ} → top ≡ u → at ≡ i → a ≡ m → in_turn (row_judged n top s at) a ≡ in_turn (row_judged n u s i) m
@@ -62,9 +64,9 @@ module _ (s : List ℕ) where
       pub by-rest : (e : ℕ) → e ≡ rest_judged s → (e ≡ 0 → ⊥) → refused e ≡ layout_outcome s
       by-rest e j n = refused_as e (rest-is ∙ sym j) n
 
-      pub accepted : (l : Layout) (e : ℕ) → e ≡ rest_judged s → e ≡ 0 → l ≡ layout_of s → given l ≡ layout_outcome s
+      pub accepted : (l : Layout) → 0 ≡ rest_judged s → l ≡ layout_of s → given l ≡ layout_outcome s
       unfolding layout_outcome
-      accepted l e j z q = ap given q ∙ outcome-given (rota_judged s) (layout_of s) (rest-is ∙ sym j ∙ z)
+      accepted l j q = ap given q ∙ outcome-given (rota_judged s) (layout_of s) (rest-is ∙ sym j)
 
 -- what the layout's outcome tells a caller
 module _ (s : List ℕ) where
@@ -87,23 +89,32 @@ module _ (s : List ℕ) where
       ap (λ (x : Layout). given x.counts) r.1 ∙ outcome-given (rota_judged s) (counts_of s) r.0
 
 -- what follows the hours records, by the counts that the reader has
-module _ (s : List ℕ) (h users permissions roles a b at : ℕ) (m : Measured s h users permissions roles a b at)
-    (long : length s ≡ at + roles + 3 * a + 3 * b) where
+module _ (s : List ℕ) (n : Counts) (at : ℕ) (m : Measured s n at) (long : length s ≡ at + n.roles + 3 * n.user_rows + 3 * n.permission_rows) where
+  counted : CountsAre s n
+  counted = counts-are s n m.counts
+
   ends_so : length s ≡ ends_at s
-  ends_so = omega (arith, long, m.ends, m.roles-are, m.user-rows, m.permission-rows)
+  ends_so = let a = counted in omega (arith, long, m.ends, a.roles, a.user-rows, a.permission-rows)
 
-  module _ (r : in_turn (role_judged s) roles ≡ 0) where
+  roles-as : in_turn (role_judged s) n.roles ≡ in_turn (role_judged s) (roles_of s)
+  roles-as = let a = counted in ap (in_turn (role_judged s)) a.roles
+
+  pub by-roles : (e : ℕ) → e ≡ in_turn (role_judged s) n.roles → (e ≡ 0 → ⊥) → e ≡ rest_judged s
+  by-roles e j some = rest-roles s ends_so e (j ∙ roles-as) some
+
+  module _ (r : 0 ≡ in_turn (role_judged s) n.roles) where
     roles-so : in_turn (role_judged s) (roles_of s) ≡ 0
-    roles-so = sym (ap (in_turn (role_judged s)) m.roles-are) ∙ r
+    roles-so = sym (r ∙ roles-as)
 
-    users-as : in_turn (row_judged 11 users s (at + roles)) a ≡ in_turn (row_judged 11 (users_of s) s (user_rows_at s)) (user_rows_of s)
-    users-as = rows_as s 11 m.users-are (omega (arith, m.ends, m.roles-are)) m.user-rows
+    users-as : in_turn (row_judged 11 n.users s (at + n.roles)) n.user_rows ≡ in_turn (row_judged 11 (users_of s) s (user_rows_at s)) (user_rows_of s)
+    users-as = let a = counted in rows_as s 11 a.users (omega (arith, m.ends, a.roles)) a.user-rows
 
-    pub by-users : (e : ℕ) → e ≡ in_turn (row_judged 11 users s (at + roles)) a → (e ≡ 0 → ⊥) → e ≡ rest_judged s
-    by-users e j n = rest-users s ends_so roles-so e (j ∙ users-as) n
+    pub by-users : (e : ℕ) → e ≡ in_turn (row_judged 11 n.users s (at + n.roles)) n.user_rows → (e ≡ 0 → ⊥) → e ≡ rest_judged s
+    by-users e j some = rest-users s ends_so roles-so e (j ∙ users-as) some
 
-    pub by-permissions : (u e : ℕ) → u ≡ in_turn (row_judged 11 users s (at + roles)) a → u ≡ 0
-        → e ≡ in_turn (row_judged 12 permissions s (at + roles + 3 * a)) b → e ≡ rest_judged s
-    by-permissions u e j z k =
-        rest-permissions s ends_so roles-so e (sym (j ∙ users-as) ∙ z)
-        (k ∙ rows_as s 12 m.permissions-are (omega (arith, m.ends, m.roles-are, m.user-rows)) m.permission-rows)
+    pub by-permissions : (e : ℕ) → 0 ≡ in_turn (row_judged 11 n.users s (at + n.roles)) n.user_rows
+        → e ≡ in_turn (row_judged 12 n.permissions s (at + n.roles + 3 * n.user_rows)) n.permission_rows → e ≡ rest_judged s
+    by-permissions e j k =
+        let a = counted in
+        rest-permissions s ends_so roles-so e (sym (j ∙ users-as))
+        (k ∙ rows_as s 12 a.permissions (omega (arith, m.ends, a.roles, a.user-rows)) a.permission-rows)

@@ -9,7 +9,7 @@
 use mathlib.Core.Path.{◌≡◌, refl, sym, ◌∙◌, ap}
 use Prim.Native.Nat.{ℕ, ◌<◌, ◌≤◌}
 use mathlib.Core.Bool.{Bool, true, false, ◌&&◌}
-use mathlib.Core.Option.{none, some}
+use Rattle.std.proofs.Common.{None, Some}
 use native.Mathlib.Nat.{lt_trans}
 use native.Mathlib.Omega.{arith}
 use lib.Dec.{leb, ltb}
@@ -89,7 +89,7 @@ pub unique : (ρ σ : Rota) → RotaWell ρ → RotaWell σ → rota_bytes ρ �
 unique ρ σ v w e = sym (read_back ρ v) ∙ ap rota_of e ∙ read_back σ w
 
 -- the answer is yes r exactly when r is enabled, has the user and has the permission at that minute, and no lower role does
-pub yes_iff : (ρ : Rota) (u p t r : ℕ) → (answer ρ u p t ≡ some r) ↔ (Through ρ u p t r × ((q : ℕ) → q < r → Through ρ u p t q → ⊥))
+pub yes_iff : (ρ : Rota) (u p t r : ℕ) → (answer ρ u p t ≡ Some r) ↔ (Through ρ u p t r × ((q : ℕ) → q < r → Through ρ u p t q → ⊥))
 unfolding answer
 yes_iff ρ u p t r = (
   (λ e.
@@ -101,7 +101,7 @@ yes_iff ρ u p t r = (
 )
 
 -- and no exactly when there is no such role
-pub no_iff : (ρ : Rota) (u p t : ℕ) → (answer ρ u p t ≡ none) ↔ ((r : ℕ) → Through ρ u p t r → ⊥)
+pub no_iff : (ρ : Rota) (u p t : ℕ) → (answer ρ u p t ≡ None) ↔ ((r : ℕ) → Through ρ u p t r → ⊥)
 unfolding answer
 no_iff ρ u p t = (
   (λ e r w. clash (through ρ u p t r) (through-in ρ u p t r w) (lowest-no (through ρ u p t) (length ρ.roles) e r w.below)),

@@ -1,13 +1,14 @@
 -- What the steps inside promise each other and the crates above, which no reader has to believe.
-use Rattle.std.specs.Prelude.{ℕ, ◌+◌, ◌*◌, ◌≤◌, ◌<◌, ◌≡◌, not, List, eqb, length}
+use Rattle.std.specs.Prelude.{ℕ, ◌+◌, ◌*◌, ◌≤◌, ◌≡◌, not, List, eqb, length}
+use Rattle.std.proofs.Props.{props}
 use Rattle.ground.specs.Believed.Judgement.{refuse, ◌or_else◌, in_turn}
-use Rattle.ground.specs.Believed.Outcome.{Outcome, refused, given, outcome}
+use Rattle.ground.specs.Believed.Outcome.{Outcome, outcome}
 use Rattle.rota.specs.Believed.RotaBytes.{header_length, hours_of, users_of, permissions_of, roles_of, user_rows_of, permission_rows_of, roles_at, user_rows_at, permission_rows_at, ends_at}
 use Rattle.rota.specs.Believed.RotaRefusals.{header_judged, role_judged, row_judged, rota_judged}
 use Rattle.rota.specs.Believed.Answers.{counts_of}
+use Rattle.rota.specs.declared.Counts.{Counts}
 use Rattle.rota.specs.declared.Layout.{Layout}
-use Rattle.rota.specs.declared.LayoutAnswer.{LayoutAnswer}
-use Rattle.rota.specs.declared.LayoutAnswer.TheVariants.{Accepted, Refused}
+use Rattle.rota.specs.declared.Rows.{Rows}
 
 -- the counts, and where hours records, role bytes and rows begin
 unfoldable pub layout_of : List ℕ → Layout
@@ -19,10 +20,6 @@ layout_of s =
       user_rows_at = user_rows_at s;
       permission_rows_at = permission_rows_at s;
     }
-
-abbrev pub layout_given : LayoutAnswer → Outcome Layout
-layout_given (Accepted l) = given l
-layout_given (Refused n) = refused n
 
 unfoldable pub layout_outcome : List ℕ → Outcome Layout
 layout_outcome s = outcome (rota_judged s) (layout_of s)
@@ -36,28 +33,26 @@ rest_judged s =
     or_else in_turn (row_judged 12 (permissions_of s) s (permission_rows_at s)) (permission_rows_of s)
 
 -- the counts are those of a header that is not refused, and the hours records end at `at`, within the bytes
-pub record Measured (s : List ℕ) (h users permissions roles a b at : ℕ) : Type 0 where
+pub record Measured (s : List ℕ) (n : Counts) (at : ℕ) : Type 0 where
   pub header : header_judged s ≡ 0
-  pub hours : h ≡ hours_of s
-  pub users-are : users ≡ users_of s
-  pub permissions-are : permissions ≡ permissions_of s
-  pub roles-are : roles ≡ roles_of s
-  pub user-rows : a ≡ user_rows_of s
-  pub permission-rows : b ≡ permission_rows_of s
+  pub counts : n ≡ counts_of s
   pub ends : at ≡ roles_at s
   pub within : at ≤ length s
 
--- n rows from `at` on are to be judged, with a refusal of their own, by the header's counts
-pub record RowsKnown (refusal : ℕ) (s : List ℕ) (h roles top at n : ℕ) : Type 0 where
-  pub number : 0 < refusal
-  pub within : at + 3 * n ≤ length s
-  pub hours : h ≡ hours_of s
-  pub roles-are : roles ≡ roles_of s
-  pub hours-most : h ≤ 32
-  pub roles-most : roles ≤ 32
-  pub top-most : top ≤ 64
+-- rows are to be judged by the header's counts, and lie within the bytes
+pub record RowsKnown (s : List ℕ) (n : Counts) (rows : Rows) : Type 0 where
+  pub within : rows.at + 3 * rows.n ≤ length s
+  pub hours : n.hours ≡ hours_of s
+  pub roles-are : n.roles ≡ roles_of s
+  pub hours-most : n.hours ≤ 32
+  pub roles-most : n.roles ≤ 32
+  pub top-most : rows.top ≤ 64
 
 -- a caller has an accepted rota's layout
 pub record Located (s : List ℕ) (l : Layout) : Type 0 where
   pub accepted : rota_judged s ≡ 0
   pub layout : l ≡ layout_of s
+
+-- two proofs of it are equal, as a field of proofs asks
+pub Located-prop : (s : List ℕ) (l : Layout) → IsProp (Located s l)
+Located-prop s l = Prim.hlevel props

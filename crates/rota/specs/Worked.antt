@@ -1,6 +1,5 @@
 -- Document 01's small rota S ("Worked minutes"): its bytes, and the answers that 01 gives for it.
-use Rattle.std.specs.Prelude.{ℕ, ◌≡◌, List, [], ◌∷◌}
-use Rattle.std.proofs.Math.Option.{none, some}
+use Rattle.std.specs.Prelude.{ℕ, ◌≡◌, List, [], ◌∷◌, None, Some}
 use Rattle.rota.specs.Believed.Rota.{answer}
 use Rattle.rota.specs.Believed.RotaBytes.{rota_of}
 
@@ -15,10 +14,10 @@ small =
 
 -- minute 3, user 0 yes role 0; 4 no, for both; 12, both yes; 36, user 1 yes; 37 and 40 no, for both
 pub record WorkedMinutes : Type 0 where
-  pub at-3 : answer (rota_of small) 0 0 3 ≡ some 0
-  pub at-4 : (answer (rota_of small) 0 0 4 ≡ none) × (answer (rota_of small) 1 0 4 ≡ none)
-  pub at-12 : answer (rota_of small) 0 0 12 ≡ some 0
-  pub at-12-too : answer (rota_of small) 1 0 12 ≡ some 0
-  pub at-36 : answer (rota_of small) 1 0 36 ≡ some 0
-  pub at-37 : (answer (rota_of small) 0 0 37 ≡ none) × (answer (rota_of small) 1 0 37 ≡ none)
-  pub at-40 : (answer (rota_of small) 0 0 40 ≡ none) × (answer (rota_of small) 1 0 40 ≡ none)
+  pub at-3 : answer (rota_of small) 0 0 3 ≡ Some 0
+  pub at-4 : (answer (rota_of small) 0 0 4 ≡ None) × (answer (rota_of small) 1 0 4 ≡ None)
+  pub at-12 : answer (rota_of small) 0 0 12 ≡ Some 0
+  pub at-12-too : answer (rota_of small) 1 0 12 ≡ Some 0
+  pub at-36 : answer (rota_of small) 1 0 36 ≡ Some 0
+  pub at-37 : (answer (rota_of small) 0 0 37 ≡ None) × (answer (rota_of small) 1 0 37 ≡ None)
+  pub at-40 : (answer (rota_of small) 0 0 40 ≡ None) × (answer (rota_of small) 1 0 40 ≡ None)

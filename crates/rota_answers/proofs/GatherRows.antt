@@ -3,7 +3,7 @@
 use Prim.Native.Nat.{ℕ, ◌+◌, ◌*◌, ◌%◌, ◌≤◌, ◌<◌}
 use mathlib.Core.Path.{◌≡◌, sym, ap, ◌∙◌}
 use mathlib.Core.List.{List}
-use mathlib.Core.Bool.{Bool, true, false, ◌&&◌, ◌||◌, or-false}
+use mathlib.Core.Bool.{Bool, false, ◌&&◌, ◌||◌, or-false}
 use native.Mathlib.Omega.{arith}
 use lib.Dec.{eqb}
 use lib.ListN.{length}
@@ -17,7 +17,7 @@ use Rattle.endian.specs.Believed.Numbers.{Bytes, u8_at}
 use Rattle.hours.specs.Believed.Hours.{dangling, ref_of}
 use Rattle.hours.specs.declared.HoursRef.{HoursRef}
 use Rattle.hours.specs.Inside.{ref_in}
-use Rattle.rota.specs.Believed.RotaBytes.{hours_of, roles_of, role_ref, row_at, row_at_byte}
+use Rattle.rota.specs.Believed.RotaBytes.{hours_of, roles_of, role_ref, row_at}
 use Rattle.rota_answers.specs.Gathered.{row_in, RowsFine, RolesFine, roles_of_number}
 
 abbrev pub of_number : List ℕ → ℕ → ℕ → ℕ → ℕ → Bool
@@ -37,44 +37,34 @@ module _ (s : List ℕ) (top at n : ℕ) (f : RowsFine s top at n) (k : ℕ) (l 
   pub row_within : at + 3 * k + 3 ≤ length s
   row_within = omega (arith, f.within)
 
-  pub row-refers : (h : ℕ) → h ≡ hours_of s → dangling h (row_at_byte s (at + 3 * k)).hours ≡ false
-  row-refers h e = rw e (f.each k l).hours
+-- sixteen rows none of which has the number's low byte don't have the number
+pub none-numbered : (s : List ℕ) → Bytes s → (at x : ℕ) → any_below 16 (λ k. eqb (u8_at s (at + 3 * k)) (x % 256)) ≡ false
+    → any_below 16 (λ k. eqb (u8_at s (at + 3 * k)) x) ≡ false
+none-numbered s bytes at x h = any-none-of 16 _ (λ j m. another _ (bytes (at + 3 * j)) (any-no 16 _ h j m))
+  where
+    another : (n : ℕ) → n < 256 → eqb n (x % 256) ≡ false → eqb n x ≡ false
+    another n l e = not_yes (eqb n x) (λ y. eqb-false n (x % 256) e (let q : n ≡ x = eqb-true n x y in omega (arith, q)))
 
--- fewer rows
-pub fewer-fine : (s : List ℕ) (top at n : ℕ) → RowsFine s top at n → (m : ℕ) → m ≤ n → RowsFine s top at m
-fewer-fine s top at n f m q = record { within = omega (arith, f.within); each = λ k l. f.each k (omega arith) }
+-- sixteen rows none of which has the number give it no role
+pub pass-rows : (s : List ℕ) (set at k x : ℕ) → any_below 16 (λ j. eqb (u8_at s (at + 3 * k + 3 * j)) x) ≡ false
+    → roles_of_number s set at k x ≡ roles_of_number s set at (k + 16) x
+unfolding roles_of_number
+pass-rows s set at k x h =
+    set_of-same (roles_of s) _ _
+    (λ r l.
+    sym
+    (any-split k 16 (given r)
+    ∙ ap (λ (b : Bool). any_below k (given r) || b) (any-none-of 16 _ (λ j m. not-given r j (any-no 16 _ h j m)))
+    ∙ or-false (any_below k (given r))))
+  where
+    given : ℕ → ℕ → Bool
+    given r i = of_number s set at x i && eqb (row_at s at i).role r
 
--- sixteen rows none of which has the number, taken as a byte, give it no role
-module _ (s : List ℕ) (bytes : Bytes s) (set at k x : ℕ) where
-  another : (n : ℕ) → n < 256 → eqb n (x % 256) ≡ false → eqb n x ≡ false
-  another n l h = not_yes (eqb n x) (λ e. eqb-false n (x % 256) h (let q : n ≡ x = eqb-true n x e in omega (arith, q)))
-
-  pub pass-rows : any_below 16 (λ j. eqb (u8_at s (at + 3 * k + 3 * j)) (x % 256)) ≡ false → roles_of_number s set at k x ≡ roles_of_number s set at (k + 16) x
-  unfolding roles_of_number
-  pass-rows h =
-      set_of-same (roles_of s) _ _
-      (λ r l.
-      sym
-      (any-split k 16 (given r)
-      ∙ ap (λ (b : Bool). any_below k (given r) || b) (any-none-of 16 _ (λ j m. not-given r j (any-no 16 _ h j m)))
-      ∙ or-false (any_below k (given r))))
-    where
-      given : ℕ → ℕ → Bool
-      given r i = of_number s set at x i && eqb (row_at s at i).role r
-
-      not-given : (r j : ℕ) → eqb (u8_at s (at + 3 * k + 3 * j)) (x % 256) ≡ false → given r (k + j) ≡ false
-      not-given r j e =
-          let z : at + 3 * (k + j) ≡ at + 3 * k + 3 * j = omega arith in
-          let n : eqb (row_at s at (k + j)).number x ≡ false = ap (λ (i : ℕ). eqb (u8_at s i) x) z ∙ another _ (bytes (at + 3 * k + 3 * j)) e in
-          ap (λ (b : Bool). b && row_in s set at (k + j) && eqb (row_at s at (k + j)).role r) n
-
--- the test of a row by its role, which is read as i, and then by its hours
-module _ (s : List ℕ) (at set roles i : ℕ) (b : Bool) (r : Bool) (ei : i ≡ (row_at_byte s at).role) (eb : b ≡ has roles i) where
-  pub with-yes : b ≡ true → r ≡ ref_in set (row_at_byte s at).hours → r ≡ (has roles (row_at_byte s at).role && ref_in set (row_at_byte s at).hours)
-  with-yes h er = er ∙ sym (ap (λ (c : Bool). c && ref_in set (row_at_byte s at).hours) (ap (has roles) (sym ei) ∙ sym eb ∙ h))
-
-  pub with-no : b ≡ false → false ≡ (has roles (row_at_byte s at).role && ref_in set (row_at_byte s at).hours)
-  with-no h = sym (ap (λ (c : Bool). c && ref_in set (row_at_byte s at).hours) (ap (has roles) (sym ei) ∙ sym eb ∙ h))
+    not-given : (r j : ℕ) → eqb (u8_at s (at + 3 * k + 3 * j)) x ≡ false → given r (k + j) ≡ false
+    not-given r j e =
+        let z : at + 3 * (k + j) ≡ at + 3 * k + 3 * j = omega arith in
+        let n : eqb (row_at s at (k + j)).number x ≡ false = ap (λ (i : ℕ). eqb (u8_at s i) x) z ∙ e in
+        ap (λ (b : Bool). b && row_in s set at (k + j) && eqb (row_at s at (k + j)).role r) n
 
 -- role byte k, which is read as the reference q
 module _ (s : List ℕ) (at n : ℕ) (f : RolesFine s at n) where

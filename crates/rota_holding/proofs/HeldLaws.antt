@@ -24,7 +24,7 @@ use Rattle.rota.specs.Inside.{Located}
 use Rattle.rota.specs.declared.Layout.{Layout}
 use Rattle.rota.proofs.LocatedLaws as located
 use Rattle.rota_answers.specs.Gathered.{holders_by}
-use Rattle.rota_answers.proofs.AskedLaws.{holders-at}
+use Rattle.rota_answers.proofs.AskedLaws.{holders-at, held-as}
 use Rattle.rota_answers.proofs.HoldersUp.{holders-up}
 use Rattle.rota_holding.specs.Rests.{Resting}
 
@@ -60,7 +60,7 @@ module _ (s : List ℕ) (l : Layout) (w : Located s l) where
   held t among early {set} {found} {on} {until} {era} es w₁ r =
       subst (λ (c : ℕ). HeldAmong (policy_of (rota_of s)) c among t found until era) cycle-is
       (record {
-        is = w₁.is ∙ ap (intersection among) (holders-at s l w set t early es (holders_by s set) refl);
+        is = w₁.is ∙ ap (intersection among) (holders-at s l w set t early (held-as s l w t set es) (holders_by s set) refl);
         lasts = λ u m h.
             record {
               each = λ v k a b d.
@@ -82,5 +82,5 @@ module _ (s : List ℕ) (l : Layout) (w : Located s l) where
           → has (holders_by s on) u ≡ true → holds_any (policy_of (rota_of s)) q u ≡ true
       still u m q n f h =
           sym (holder (policy_of (rota_of s)) q u m)
-          ∙ ap (λ (z : ℕ). has z u) (sym (holders-at s l w (on_at q) q n refl _ refl))
+          ∙ ap (λ (z : ℕ). has z u) (sym (holders-at s l w (on_at q) q n (held-as s l w q _ refl) _ refl))
           ∙ holders-up s on (on_at q) f u h

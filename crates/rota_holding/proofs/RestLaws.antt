@@ -77,11 +77,10 @@ module _ (s : List ℕ) (l : Layout) (w : Located s l) where
       (eq-eqb (row_at s (user_rows_at s) k).number (row_at s (user_rows_at s) k).number refl))
 
   module _ (sets : List ℕ) (p : Permitted s (permission_rows_at s) (permission_rows_of s) sets) (set : ℕ) where
-    pub live-as : {a b x : ℕ} → a ≡ roles_enabled s set l.counts.roles → b ≡ roles_given set sets l.counts.roles → x ≡ intersection a b → x ≡ live_by s set
+    pub live-as : {a b x : ℕ} → a ≡ roles_enabled s set (roles_of s) → b ≡ roles_given set sets l.counts.roles → x ≡ intersection a b → x ≡ live_by s set
     unfolding live_by
-    live-as {a} {b} ea eb ex =
+    live-as {a} {b} fa eb ex =
         let n = (located.counted s l w).roles in
-        let fa : a ≡ roles_enabled s set (roles_of s) = rw n at ea in
         let fb : b ≡ roles_given set sets (roles_of s) = rw n at eb in
         ex ∙ ap₂ intersection fa (fb ∙ given-as s _ _ _ rows few sets p set fine.header.roles-most)
 
@@ -161,12 +160,6 @@ module _ (s : List ℕ) (l : Layout) (w : Located s l) where
       → Permitted s (permission_rows_at s) (permission_rows_of s) sets
   permitted-as p = rw ((located.counted s l w).permission-rows, located.permission-rows-at s l w) at p
 
-  pub in_rows : (k : ℕ) → k < l.counts.user_rows → k < user_rows_of s
-  in_rows k m = omega (arith, (located.counted s l w).user-rows)
-
-  pub past-rows : (k : ℕ) → l.counts.user_rows ≤ k → user_rows_of s ≤ k
-  past-rows k m = omega (arith, (located.counted s l w).user-rows)
-
   pub role-here : (r : ℕ) → r < roles_of s → l.roles_at + r < length s
   role-here r m = omega (arith, located.roles-at s l w, fine.ended)
 
@@ -177,11 +170,8 @@ module _ (s : List ℕ) (l : Layout) (w : Located s l) where
     pub row_here : l.user_rows_at + 3 * k + 3 ≤ length s
     row_here = omega (arith, place, fine.ended)
 
-    pub user-as : (row_at s l.user_rows_at k).number ≡ (row_at s (user_rows_at s) k).number
-    user-as = ap (λ (i : ℕ). (row_at s i k).number) place
-
-    pub user-small : (row_at s l.user_rows_at k).number < 64
-    user-small = omega (arith, user-as, (fine.user-rows k m).number, fine.header.users-most)
+    pub user-small : {user : ℕ} → user ≡ (row_at s (user_rows_at s) k).number → user < 64
+    user-small e = omega (arith, e, (fine.user-rows k m).number, fine.header.users-most)
 
     pub role-as : (row_at s l.user_rows_at k).role ≡ (row_at s (user_rows_at s) k).role
     role-as = ap (λ (i : ℕ). (row_at s i k).role) place
@@ -191,15 +181,6 @@ module _ (s : List ℕ) (l : Layout) (w : Located s l) where
 
     pub role-few : (row_at s l.user_rows_at k).role < 32
     role-few = omega (arith, role-below, fine.header.roles-most)
-
-    pub row-refers : dangling l.counts.hours (row_at s l.user_rows_at k).hours ≡ false
-    row-refers = rw (hours-as, place) (fine.user-rows k m).hours
-
-    pub gives_as : (set : ℕ) {live : ℕ} {b : Bool} → live ≡ live_by s set
-        → b ≡ (has live (row_at s l.user_rows_at k).role && ref_in set (row_at s l.user_rows_at k).hours) → b ≡ gives s set k
-    gives_as set el eb =
-        eb
-        ∙ ap₂ (λ (x : ℕ) (i : ℕ). has x (row_at s i k).role && ref_in set (row_at s i k).hours) el place
 
     pub grown-here : (sets : List ℕ) (p : Permitted s (permission_rows_at s) (permission_rows_of s) sets) (set : ℕ) → gives s set k ≡ true
         → {x on a b c more : ℕ} → x ≡ get_or sets (row_at s l.user_rows_at k).role 0 → has x a ≡ true → has (insert set 63) a ≡ true → a < 64
@@ -214,6 +195,14 @@ module _ (s : List ℕ) (l : Layout) (w : Located s l) where
         (ap (λ (y : ℕ). has y a) (ap (λ (r : ℕ). get_or sets r 0) (sym role-as) ∙ sym ex) ∙ ha) hb la fb fc
         (omega (arith, fb, number_small (role_ref s (row_at s (user_rows_at s) k).role)))
         (omega (arith, fc, number_small (row_at s (user_rows_at s) k).hours)) em
+
+-- a row, as the rows of users are lent
+module _ {s bytes : List ℕ} {at : ℕ} (eb : bytes ≡ s) (ea : at ≡ user_rows_at s) (k : ℕ) where
+  pub user-as : {user : ℕ} → user ≡ (row_at bytes at k).number → user ≡ (row_at s (user_rows_at s) k).number
+  user-as e = rw (eb, ea) at e
+
+  pub gives_as : (set : ℕ) {live : ℕ} {b : Bool} → live ≡ live_by s set → b ≡ (has live (row_at bytes at k).role && row_in bytes set at k) → b ≡ gives s set k
+  gives_as set el e = rw (eb, ea, el) at e
 
 -- ---- the rows so far
 -- whether a user is looked for, as the code tests it

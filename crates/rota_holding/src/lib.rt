@@ -6,7 +6,6 @@ ghost use Rattle.std.specs.Prelude.{◌≡◌, true, ◌≤◌, ◌<◌, length}
 ghost use Rattle.bitset.specs.Believed.Sets.{has, insert, intersection};
 ghost use Rattle.endian.specs.Believed.Numbers.{u8_at};
 ghost use Rattle.hours.specs.Believed.Hours.{ref_of};
-ghost use Rattle.rota.specs.Inside.{Located};
 ghost use Rattle.rota.specs.Believed.RotaBytes.{roles_of, user_rows_of, permission_rows_at, permission_rows_of, rota_of, cycle_of};
 ghost use Rattle.rota_answers.specs.Gathered.{RowsFine};
 ghost use Rattle.minutes.specs.Believed.Minutes.{E};
@@ -16,7 +15,8 @@ ghost use Rattle.rota_holding.specs.Rests.{number_of, Permitted, meets, roles_gi
 
 use hours::HoursRef;
 use policy::Held;
-use rota::Layout;
+use rota::accepted::Rota;
+use rota_answers::rows::user_rows;
 
 // Who is found, and the numbers of the records that these rest on.
 #[derive(Clone, Copy)]
@@ -42,28 +42,25 @@ fn permitted(s: &[u8], at: usize, n: usize, top: usize) -> [u64; 32]
     requires { RowsFine s.now top at n × (roles_of s.now ≤ 32) }
     ensures { Permitted s.now at n result }
 {
-    let mut sets = [0u64; 32];
-    let mut k = 0;
-    while k < n {
+    let mut sets = [0; 32];
+    for k in 0..n {
         let i = at + 3 * k;
         let role = s[i + 1] as usize;
         sets[role] = bitset::with(sets[role], number_at(s, i + 2));
-        k += 1;
     }
     sets
 }
 
 // For each role, the hours of its permissions.
-pub fn permitted_hours(s: &[u8], l: Layout) -> [u64; 32]
-    requires { Located s.now l }
-    ensures { Permitted s.now (permission_rows_at s.now) (permission_rows_of s.now) result }
+pub fn permitted_hours(rota: &Rota<'_>) -> [u64; 32]
+    ensures { Permitted rota.now.bytes.now (permission_rows_at rota.now.bytes.now) (permission_rows_of rota.now.bytes.now) result }
 {
-    let n = l.counts;
+    let l = rota.layout;
     permitted(
-        s,
+        rota.bytes,
         l.permission_rows_at,
-        n.permission_rows as usize,
-        n.permissions as usize,
+        l.counts.permission_rows as usize,
+        l.counts.permissions as usize,
     )
 }
 
@@ -74,12 +71,10 @@ fn given(sets: &[u64; 32], set: u64, n: usize) -> u64
 {
     let on = bitset::with(set, 63);
     let mut roles = 0;
-    let mut k = 0;
-    while k < n {
+    for k in 0..n {
         if bitset::both(sets[k], on) != 0 {
             roles = bitset::with(roles, k as u32);
         }
-        k += 1;
     }
     roles
 }
@@ -104,67 +99,65 @@ fn with_three(set: u64, on: u64, a: u32, b: u32, c: u32) -> u64
 }
 
 // The records `on` with those that the user of row k rests on by it: the hours of the row, of its role, and of a permission of the role.
-fn rest_on(s: &[u8], l: Layout, sets: &[u64; 32], set: u64, on: u64, k: usize) -> u64
-    requires { Located s.now l × Permitted s.now (permission_rows_at s.now) (permission_rows_of s.now) sets.now × (k < user_rows_of s.now) × (gives s.now set k ≡ true) }
-    ensures { Grown s.now set on k result }
+fn rest_on(rota: &Rota<'_>, sets: &[u64; 32], set: u64, on: u64, k: usize) -> u64
+    requires { Permitted rota.now.bytes.now (permission_rows_at rota.now.bytes.now) (permission_rows_of rota.now.bytes.now) sets.now × (k < user_rows_of rota.now.bytes.now) × (gives rota.now.bytes.now set k ≡ true) }
+    ensures { Grown rota.now.bytes.now set on k result }
 {
-    let i = l.user_rows_at + 3 * k;
+    let s = rota.bytes;
+    let i = rota.layout.user_rows_at + 3 * k;
     let role = s[i + 1] as usize;
     let permission = choose(sets[role], set);
-    let own = number_at(s, l.roles_at + role);
+    let own = number_at(s, rota.layout.roles_at + role);
     with_three(set, on, permission, own, number_at(s, i + 2))
 }
 
 // Of `among`, who holds a permission by a user row, which gives one of the live roles. Everyone rests on the first such row, and once all are found, the
 // others are left.
-fn found_by_rows(s: &[u8], l: Layout, sets: &[u64; 32], set: u64, live: u64, among: u64) -> Rest
-    requires { Located s.now l × Permitted s.now (permission_rows_at s.now) (permission_rows_of s.now) sets.now × (live ≡ live_by s.now set) }
-    ensures { Resting s.now set among result.found result.on }
+fn found_by_rows(rota: &Rota<'_>, sets: &[u64; 32], set: u64, live: u64, among: u64) -> Rest
+    requires { Permitted rota.now.bytes.now (permission_rows_at rota.now.bytes.now) (permission_rows_of rota.now.bytes.now) sets.now × (live ≡ live_by rota.now.bytes.now set) }
+    ensures { Resting rota.now.bytes.now set among result.found result.on }
 {
-    let h = l.counts.hours as usize;
-    let n = l.counts.user_rows as usize;
+    let rows = user_rows(rota);
     let mut found = 0;
     let mut on = 0;
-    let mut k = 0;
-    while k < n {
+    for k in 0..rows.n {
         if found == among {
             return Rest { found, on };
         }
-        let i = l.user_rows_at + 3 * k;
-        let user = s[i] as u32;
+        let user = rows.number(k);
         if bitset::contains(bitset::lost(among, found), user) {
-            if rota_answers::row_with(s, h, set, i, live) {
+            if rows.holds_for(k, set, live) {
                 found = bitset::with(found, user);
-                on = rest_on(s, l, sets, set, on, k);
+                on = rest_on(rota, sets, set, on, k);
             }
         }
-        k += 1;
     }
     Rest { found, on }
 }
 
 // Of `among`, who holds a permission by the records of a set, and which of these they rest on.
-pub fn resting(s: &[u8], l: Layout, sets: &[u64; 32], set: u64, among: u64) -> Rest
-    requires { Located s.now l × Permitted s.now (permission_rows_at s.now) (permission_rows_of s.now) sets.now }
-    ensures { Resting s.now set among result.found result.on }
+pub fn resting(rota: &Rota<'_>, sets: &[u64; 32], set: u64, among: u64) -> Rest
+    requires { Permitted rota.now.bytes.now (permission_rows_at rota.now.bytes.now) (permission_rows_of rota.now.bytes.now) sets.now }
+    ensures { Resting rota.now.bytes.now set among result.found result.on }
 {
-    let n = l.counts;
-    let roles = n.roles as usize;
-    let enabled = rota_answers::roles_enabled(s, n.hours as usize, set, l.roles_at, roles);
+    let enabled = rota_answers::roles_enabled(rota, set);
+    let roles = rota.layout.counts.roles as usize;
     let live = bitset::both(enabled, given(sets, set, roles));
-    found_by_rows(s, l, sets, set, live, among)
+    found_by_rows(rota, sets, set, live, among)
 }
 
 // Of `among`, who holds a permission at minute t, and how far these go on holding one. As long as the hours that they rest on hold, so do they. `hours`
 // are those of each role's permissions.
-pub fn held_at(s: &[u8], l: Layout, hours: &[u64; 32], t: u32, among: u64) -> Held
-    requires { Located s.now l × Permitted s.now (permission_rows_at s.now) (permission_rows_of s.now) hours.now × (t < E) }
-    ensures { HeldAmong (policy_of (rota_of s.now)) (cycle_of s.now) among t result.set result.until result.era }
+pub fn held_at(rota: &Rota<'_>, hours: &[u64; 32], t: u32, among: u64) -> Held
+    requires { Permitted rota.now.bytes.now (permission_rows_at rota.now.bytes.now) (permission_rows_of rota.now.bytes.now) hours.now × (t < E) }
+    ensures { HeldAmong (policy_of (rota_of rota.now.bytes.now)) (cycle_of rota.now.bytes.now) among t result.set result.until result.era }
 {
+    let s = rota.bytes;
+    let l = rota.layout;
     let n = l.counts;
     let h = n.hours as usize;
     let set = hours_times::records_on(s, n.cycle, l.hours_at, h, t);
-    let r = resting(s, l, hours, set, among);
+    let r = resting(rota, hours, set, among);
     let span = hours_times::records_span(s, n.cycle, l.hours_at, h, t, r.on);
     Held {
         set: r.found,

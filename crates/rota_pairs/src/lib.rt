@@ -3,10 +3,13 @@
 #![tactic(auto)]
 
 ghost use Rattle.std.specs.Prelude.{◌≡◌, ◌≤◌, ◌+◌, ◌*◌, ◌<◌, length, replicate};
+ghost use Rattle.refusal.specs.Believed.Ends.{judgement_of};
 ghost use Rattle.rota_pairs.specs.HandedDown.{handed_down, JuniorsAre};
 ghost use Rattle.rota_pairs.specs.Hierarchy.{PairsWell};
 ghost use Rattle.rota_pairs.specs.Pairs.{pairs_of, pairs_judged};
 ghost use Rattle.rota_pairs.specs.Filling.{with_junior};
+
+use refusal::Refusal;
 
 // The roles reached once each of the roles n - 1, n - 2, .., 0 that is reached has handed on to its enabled juniors. A junior's number is lower, so
 // each role is visited once, after all its seniors.
@@ -26,24 +29,22 @@ pub fn reach(juniors: &[u64; 32], on: u64, n: u32, reached: u64) -> u64
     reach(juniors, on, r, reached)
 }
 
-// The first refusal of the pairs from `at` on, `count` in number, else 0.
-pub fn judge_pairs(s: &[u8], at: usize, count: usize, roles: u32) -> u32
+// Judges the pairs from `at` on, `count` in number.
+pub fn judge_pairs(s: &[u8], at: usize, count: usize, roles: u32) -> Result<(), Refusal>
     requires { at + 2 * count ≤ length s.now }
-    ensures { result ≡ pairs_judged roles s.now at count }
+    ensures { judgement_of result ≡ pairs_judged roles s.now at count }
 {
-    let mut k = 0;
-    while k < count {
+    for k in 0..count {
         let senior = s[at + 2 * k] as u32;
         let junior = s[at + 2 * k + 1] as u32;
         if roles <= senior {
-            return 54;
+            return Err(Refusal::RolePair);
         }
         if senior <= junior {
-            return 54;
+            return Err(Refusal::RolePair);
         }
-        k += 1;
     }
-    0
+    Ok(())
 }
 
 // Puts a junior into the set of its senior.
@@ -51,8 +52,7 @@ fn add(juniors: &mut [u64; 32], senior: usize, junior: usize)
     requires { (senior < 32) × (junior < 64) }
     ensures { juniors.new ≡ with_junior juniors.old senior junior }
 {
-    let had = juniors[senior];
-    juniors[senior] = bitset::with(had, junior as u32);
+    juniors[senior] = bitset::with(juniors[senior], junior as u32);
 }
 
 // Fills sets that are empty with the juniors of each role, by the pairs from `at` on, `count` in number.
@@ -60,11 +60,9 @@ pub fn fill_juniors(s: &[u8], at: usize, count: usize, juniors: &mut [u64; 32])
     requires { (at + 2 * count ≤ length s.now) × PairsWell 32 (pairs_of s.now at count) × (juniors.old ≡ replicate 32 0) }
     ensures { JuniorsAre (pairs_of s.now at count) juniors.new }
 {
-    let mut i = 0;
-    while i < count {
+    for i in 0..count {
         let senior = s[at + 2 * i] as usize;
         let junior = s[at + 2 * i + 1] as usize;
         add(juniors, senior, junior);
-        i += 1;
     }
 }

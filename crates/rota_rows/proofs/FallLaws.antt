@@ -1,6 +1,6 @@
 -- A row and the one after it, byte by byte: by role, then number, then hours, the row after is not above where the rise is 0.
 --     rise-joined                             a rise as two numbers of which one is 0
---     rise-none, rise-some                    the rise from a row to the next is 0 exactly when the next is not above
+--     falls-zero, byte-one                    the rise from a row to the next is 0 exactly when the next is not above; a test as a number
 --     falls-yes, falls-no                     the same by their places in the order
 --     counted, counted-one, counted-rows      the positions of a block, of which every third counts
 --     rest-falls, rest-ascends                all rows, once those left over are looked at
@@ -12,6 +12,7 @@ use mathlib.Core.Bool.{Bool, true, false, ◌&&◌, ◌||◌, or-true, or-false}
 use mathlib.Core.List.{List}
 use native.Mathlib.Omega.{arith}
 use borrow.Author.Tests.{le-leb, lt-leb, eq-eqb, ne_eqb, eqb-true}
+use mir.Val.{bool_byte}
 use lib.Bits.{bit_and, bit_or, or_zero_l, or_zero_r}
 use lib.Dec.{leb, eqb}
 use lib.ListN.{get_or}
@@ -83,22 +84,20 @@ module _ (r n h r2 n2 h2 : ℕ) (nb : n < 256) (hb : h < 256) (nb2 : n2 < 256) (
       (λ e. ap (λ (m : ℕ). eqb m 0) (rise-equal r r2 _ e) ∙ by_number e)
       (λ l. rise-above r r2 _ l ∙ no (omega arith))
 
+pub byte-one : (b : Bool) → bool_byte b ≡ one b
+byte-one true = refl
+byte-one false = refl
+
 module _ (s : List ℕ) (at : ℕ) where
   -- the rise by hours, by number and hours, and by all three
   module _ (bytes : Bytes s) (x y rise : ℕ) (ex : x ≡ u8_at s (at + 5) - u8_at s (at + 2)) (ey : y ≡ rise_of (u8_at s at) (u8_at s (at + 3)) x)
       (er : rise ≡ rise_of (u8_at s (at + 1)) (u8_at s (at + 4)) y) where
-    falls-zero : eqb rise 0 ≡ next_falls s at
+    pub falls-zero : eqb rise 0 ≡ next_falls s at
     unfolding next_falls place_at
     falls-zero =
         let e4 : at + 3 + 1 ≡ at + 4 = omega arith in
         let e5 : at + 3 + 2 ≡ at + 5 = omega arith in
         rw (er, ey, ex, e4, e5) (by-role _ _ _ _ _ _ (bytes at) (bytes (at + 2)) (bytes (at + 3)) (bytes (at + 5)))
-
-    pub rise-none : rise ≡ 0 → 1 ≡ one (next_falls s at)
-    rise-none e = ap one (sym (eq-eqb rise 0 e) ∙ falls-zero)
-
-    pub rise-some : (rise ≡ 0 → ⊥) → 0 ≡ one (next_falls s at)
-    rise-some e = ap one (sym (ne_eqb rise 0 e) ∙ falls-zero)
 
   -- places that were read
   module _ (here next : ℕ) (eh : here ≡ place_at s at) (en : next ≡ place_at s (at + 3)) where

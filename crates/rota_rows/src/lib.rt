@@ -14,11 +14,9 @@ fn pattern(a: u8, b: u8, c: u8) -> [u8; 48]
     ensures { Pattern a b c 16 result }
 {
     let mut p = [c; 48];
-    let mut i = 0;
-    while i < 16 {
+    for i in 0..16 {
         p[3 * i] = a;
         p[3 * i + 1] = b;
-        i += 1;
     }
     p
 }
@@ -27,13 +25,7 @@ fn pattern(a: u8, b: u8, c: u8) -> [u8; 48]
 fn between(low: u8, high: u8, x: u8) -> u8
     ensures { result ≡ one (leb low x && leb x high) }
 {
-    if x < low {
-        return 0;
-    }
-    if high < x {
-        return 0;
-    }
-    1
+    u8::from(low <= x && x <= high)
 }
 
 // Whether one of the 48 bytes from `at` on lies in its range.
@@ -42,10 +34,8 @@ fn block_out(s: &[u8], at: usize, low: &[u8; 48], high: &[u8; 48]) -> bool
     ensures { result ≡ any_below 48 (byte_out low.now high.now s.now at) }
 {
     let mut out = 0u8;
-    let mut j = 0;
-    while j < 48 {
-        out = out | between(low[j], high[j], s[at + j]);
-        j += 1;
+    for j in 0..48 {
+        out |= between(low[j], high[j], s[at + j]);
     }
     out != 0
 }
@@ -55,12 +45,10 @@ fn blocks_out(s: &[u8], at: usize, n: usize, low: &[u8; 48], high: &[u8; 48]) ->
     requires { at + 48 * n ≤ length s.now }
     ensures { result ≡ any_below n (λ i. any_below 48 (byte_out low.now high.now s.now (at + 48 * i))) }
 {
-    let mut i = 0;
-    while i < n {
+    for i in 0..n {
         if block_out(s, at + 48 * i, low, high) {
             return true;
         }
-        i += 1;
     }
     false
 }
@@ -70,13 +58,7 @@ pub fn row_out(s: &[u8], at: usize, top: u8, roles: u8, hours: u8) -> bool
     requires { at + 3 ≤ length s.now }
     ensures { result ≡ row_out top roles hours s.now at }
 {
-    if top <= s[at] {
-        return true;
-    }
-    if roles <= s[at + 1] {
-        return true;
-    }
-    between(hours, 254, s[at + 2]) != 0
+    top <= s[at] || roles <= s[at + 1] || between(hours, 254, s[at + 2]) != 0
 }
 
 // Whether one of the n rows from `at` on is, looked at one by one.
@@ -84,12 +66,10 @@ fn rest_out(s: &[u8], at: usize, n: usize, top: u8, roles: u8, hours: u8) -> boo
     requires { at + 3 * n ≤ length s.now }
     ensures { result ≡ any_below n (λ k. row_out top roles hours s.now (at + 3 * k)) }
 {
-    let mut k = 0;
-    while k < n {
+    for k in 0..n {
         if row_out(s, at + 3 * k, top, roles, hours) {
             return true;
         }
-        k += 1;
     }
     false
 }
@@ -123,24 +103,11 @@ pub fn any_numbered(s: &[u8], at: usize, x: u8) -> bool
     block_out(s, at, &low, &high)
 }
 
-// How far y lies above x, else 0.
-fn over(x: u8, y: u8) -> u8
-    ensures { result ≡ y - x }
-{
-    if x < y {
-        return y - x;
-    }
-    0
-}
-
 // `after` where x and y are equal, else 0.
 fn where_equal(x: u8, y: u8, after: u8) -> u8
     ensures { result ≡ pick (eqb x y) after 0 }
 {
-    if x == y {
-        return after;
-    }
-    0
+    if x == y { after } else { 0 }
 }
 
 // How far y lies above x, or `after` where they are equal, else 0. One of the two numbers that are joined is 0. (The compiler makes fewer vector
@@ -148,7 +115,7 @@ fn where_equal(x: u8, y: u8, after: u8) -> u8
 fn rise(x: u8, y: u8, after: u8) -> u8
     ensures { result ≡ rise_of x y after }
 {
-    over(x, y) | where_equal(x, y, after)
+    y.saturating_sub(x) | where_equal(x, y, after)
 }
 
 // 1 where the row after the row at `at` is not above it, else 0.
@@ -156,12 +123,9 @@ fn next_falls(s: &[u8], at: usize) -> u8
     requires { at + 6 ≤ length s.now }
     ensures { result ≡ one (next_falls s.now at) }
 {
-    let by_hours = over(s[at + 2], s[at + 5]);
+    let by_hours = s[at + 5].saturating_sub(s[at + 2]);
     let by_number = rise(s[at], s[at + 3], by_hours);
-    if rise(s[at + 1], s[at + 4], by_number) == 0 {
-        return 1;
-    }
-    0
+    u8::from(rise(s[at + 1], s[at + 4], by_number) == 0)
 }
 
 // Whether one of the sixteen rows after the row at `at` is not above the one before. Each of 48 positions is taken for a row's, and only where one begins
@@ -171,10 +135,8 @@ fn block_falls(s: &[u8], at: usize, counts: &[u8; 48]) -> bool
     ensures { result ≡ any_below 16 (λ k. next_falls s.now (at + 3 * k)) }
 {
     let mut out = 0u8;
-    let mut i = 0;
-    while i < 48 {
-        out = out | (counts[i] & next_falls(s, at + i));
-        i += 1;
+    for i in 0..48 {
+        out |= counts[i] & next_falls(s, at + i);
     }
     out != 0
 }
@@ -184,12 +146,10 @@ fn blocks_fall(s: &[u8], at: usize, n: usize, counts: &[u8; 48]) -> bool
     requires { (at + 48 * n + 5 ≤ length s.now) × Pattern 1 0 0 16 counts.now }
     ensures { result ≡ any_below n (λ i. any_below 16 (λ k. next_falls s.now (at + 48 * i + 3 * k))) }
 {
-    let mut i = 0;
-    while i < n {
+    for i in 0..n {
         if block_falls(s, at + 48 * i, counts) {
             return true;
         }
-        i += 1;
     }
     false
 }
@@ -211,14 +171,12 @@ fn rest_falls(s: &[u8], at: usize, n: usize) -> bool
     ensures { result ≡ any_below n (λ k. next_falls s.now (at + 3 * k)) }
 {
     let mut last = place_at(s, at);
-    let mut k = 0;
-    while k < n {
+    for k in 0..n {
         let next = place_at(s, at + 3 * k + 3);
         if next <= last {
             return true;
         }
         last = next;
-        k += 1;
     }
     false
 }

@@ -3,19 +3,19 @@
 use Prim.Native.Nat.{ℕ, ◌+◌, ◌<◌, ◌≤◌}
 use mathlib.Core.Path.{◌≡◌, refl, sym, ap, ap₂, ◌∙◌}
 use mathlib.Core.Bool.{Bool, true, false}
-use mathlib.Core.Option.{Option}
+use Rattle.std.proofs.Common.{Option}
 use borrow.Author.Tests.{leb-false}
 use lib.Dec.{leb}
 use Rattle.ground.specs.Believed.Judgement.{refuse, ◌or_else◌}
-use Rattle.ground.specs.Believed.Outcome.{Outcome, refused, given}
+use Rattle.ground.specs.Believed.Outcome.{refused, given}
 use Rattle.ground.proofs.JudgementLaws.{or_else-ne}
 use Rattle.bitset.specs.Believed.Sets.{has, difference, count}
 use Rattle.bitset.proofs.SetLaws.{has-below}
 use Rattle.policy.specs.Believed.Policy.{Policy, holds_any, holders_at}
 use Rattle.policy.specs.Believed.Steady.{steady_over}
 use Rattle.machine.proofs.CoreLaws.{settled-refused, settled-given}
-use Rattle.machine.specs.Believed.Machine.{Call, advance, «open», close, ask, closed, state, staying, state_judged, advance_judged, open_judged, close_judged, ask_judged, call_judged, given_by, left_by, step_by, service_step}
-use Rattle.machine.specs.Core.{moved_step, opened_step, closed_step, answered_step}
+use Rattle.machine.specs.Believed.Machine.{Call, advance, «open», close, ask, closed, answered, state, staying, state_judged, advance_judged, open_judged, close_judged, ask_judged, call_judged, given_by, left_by, step_by, service_step}
+use Rattle.machine.specs.Core.{moved_step, opened_step, closed_step}
 use Rattle.machine.specs.declared.Service.{Service}
 
 -- lent bytes that are judged to be j are accepted, and these are the counts of what they say
@@ -112,7 +112,7 @@ module _ {j users permissions : ℕ} {π : Policy} (w : Ready j users permission
       → record { outcome = refused n; after = σ } ≡ service_step j π σ (ask u p)
   ask-refused u p n e h = call-refused n (ask u p) (ask-as u p n e) h
 
-  pub ask-answered : (u p n : ℕ) (o : Outcome (Option ℕ)) → n ≡ state_judged users σ or_else ask_judged users permissions σ u p → n ≡ 0
-      → o ≡ given (π.answer u p σ.now) → answered_step o σ ≡ service_step j π σ (ask u p)
-  unfolding answered_step given_by left_by
-  ask-answered u p n o e z h = ap (λ (x : Outcome (Option ℕ)). answered_step x σ) h ∙ call-given n (ask u p) (ask-as u p n e) z
+  pub ask-answered : (u p n : ℕ) (o : Option ℕ) → n ≡ state_judged users σ or_else ask_judged users permissions σ u p → n ≡ 0
+      → o ≡ π.answer u p σ.now → record { outcome = given (answered o); after = σ } ≡ service_step j π σ (ask u p)
+  unfolding given_by left_by
+  ask-answered u p n o e z h = ap (λ (x : Option ℕ). record { outcome = given (answered x); after = σ }) h ∙ call-given n (ask u p) (ask-as u p n e) z

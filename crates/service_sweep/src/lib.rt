@@ -5,8 +5,7 @@
 ghost use Rattle.std.specs.Prelude.{◌≡◌, ◌⊎◌, ◌+◌, ◌^◌, ◌≤◌, ◌<◌};
 ghost use Rattle.minutes.specs.Believed.Minutes.{E};
 ghost use Rattle.policy.specs.Believed.Steady.{steady_over};
-ghost use Rattle.source.specs.Believed.Lent.{policy_as};
-ghost use Rattle.source.specs.Inside.{kind_of, users_of, Lends, Prepared};
+ghost use Rattle.source.specs.Inside.{policy_in, Prepared};
 
 use source::Source;
 
@@ -18,26 +17,23 @@ struct Turn {
     reach: u32,
 }
 
-// Of `among`, those who hold a permission at each minute from x on: for one cycle, and so to the first end of what was seen, or to b.
+// Of those of a turn, who holds a permission at each minute from its `next` on: for one cycle, and so to the first end of what was seen, or to b.
 fn one_cycle(
-    s: &[u8],
-    source: Source,
+    source: &Source<'_>,
     hours: &[u64; 32],
     places: &mut [u64; 32],
-    x: u32,
+    turn: Turn,
     b: u32,
-    among: u64,
-    reach: u32,
 ) -> Turn
-    requires { Lends (kind_of source) s.now source × (x < b) × (b ≤ E) × (among < 2 ^ users_of source) × (0 < reach) × (reach ≤ E + E) × Prepared source s.now hours.now }
-    ensures { (result.set ≡ steady_over (policy_as (kind_of source) s.now) among x result.next) × (x < result.next) × (result.next ≤ b) × (0 < result.reach) × (result.reach ≤ E + E) }
+    requires { (turn.next < b) × (b ≤ E) × (turn.set < 2 ^ (policy_in source.now).users) × (0 < turn.reach) × (turn.reach ≤ E + E) × Prepared source.now hours.now }
+    ensures { (result.set ≡ steady_over (policy_in source.now) turn.set turn.next result.next) × (turn.next < result.next) × (result.next ≤ b) × (0 < result.reach) × (result.reach ≤ E + E) }
 {
-    let far = x + source::cycle(source);
-    let mut stays = among;
-    let mut y = x;
+    let far = turn.next + source.cycle();
+    let mut stays = turn.set;
+    let mut y = turn.next;
     let mut e = b;
-    let mut ahead = reach;
-    while y < minutes::earlier(e, far) {
+    let mut ahead = turn.reach;
+    while y < e.min(far) {
         if stays == 0 {
             return Turn {
                 set: 0,
@@ -45,18 +41,10 @@ fn one_cycle(
                 reach: ahead,
             };
         }
-        let h = source::held_near(
-            s,
-            source,
-            hours,
-            places,
-            y,
-            stays,
-            minutes::earlier(e, y + ahead),
-        );
+        let h = source.held_near(hours, places, y, stays, e.min(y + ahead));
         stays = h.set;
-        e = minutes::earlier(e, h.era);
-        ahead = 2 * (minutes::earlier(e, h.until) - y);
+        e = e.min(h.era);
+        ahead = 2 * (e.min(h.until) - y);
         y = h.until;
     }
     Turn {
@@ -68,28 +56,28 @@ fn one_cycle(
 
 // Of `among`, those who hold a permission at each minute from a to before b. One minute is what an advance mostly passes, and an open asks for: it needs
 // no sweep, and of it anyone may be asked.
-pub fn steady(s: &[u8], source: Source, a: u32, b: u32, among: u64) -> u64
-    requires { Lends (kind_of source) s.now source × (a ≤ b) × (b ≤ E) × ((among < 2 ^ users_of source) ⊎ (b ≡ a + 1)) }
-    ensures { result ≡ steady_over (policy_as (kind_of source) s.now) among a b }
+pub fn steady(source: &Source<'_>, a: u32, b: u32, among: u64) -> u64
+    requires { (a ≤ b) × (b ≤ E) × ((among < 2 ^ (policy_in source.now).users) ⊎ (b ≡ a + 1)) }
+    ensures { result ≡ steady_over (policy_in source.now) among a b }
 {
     if a == b {
         return among;
     }
     if b - a == 1 {
-        return bitset::both(among, source::holders_at(s, source, a));
+        return bitset::both(among, source.holders_at(a));
     }
-    let hours = source::prepare(s, source);
-    let mut places = [18446744073709551615; 32];
-    let mut t = Turn {
+    let hours = source.prepare();
+    let mut places = [u64::MAX; 32];
+    let mut turn = Turn {
         set: among,
         next: a,
-        reach: source::cycle(source),
+        reach: source.cycle(),
     };
-    while t.next < b {
-        if t.set == 0 {
+    while turn.next < b {
+        if turn.set == 0 {
             return 0;
         }
-        t = one_cycle(s, source, &hours, &mut places, t.next, b, t.set, t.reach);
+        turn = one_cycle(source, &hours, &mut places, turn, b);
     }
-    t.set
+    turn.set
 }

@@ -1,2 +1,3 @@
+pub mod LeftLaws
 pub mod LentOne
 pub mod LentTwo

@@ -1,4 +1,4 @@
-// The C interface for the host: numbers, byte slices and plain structs. The service record is lent to each call, a thin one over the call by value.
+// The C interface for the host: numbers, byte slices and plain structs. Each function tells the result of the call below it in such numbers.
 #![tactic(auto)]
 
 ghost use Rattle.std.specs.Prelude.{◌≡◌, length};
@@ -27,6 +27,7 @@ use host_answers::{
 };
 use host_page::Question;
 use machine::Service;
+use source::Kind;
 use table_board::Board;
 
 // The version is 1.0.0: millions are the major one, thousands the minor one, and the rest the patch.
@@ -43,14 +44,14 @@ pub extern "C" fn softlode_version() -> u32
 pub extern "C" fn softlode_rota_read(s: &[u8]) -> RotaTold
     ensures { result ≡ rota_told (rotaRead s.now) }
 {
-    host_answers::tell_rota(rota::read(s))
+    rota::read(s).into()
 }
 
 #[unsafe(no_mangle)]
 pub extern "C" fn softlode_table_read(s: &[u8]) -> TableTold
     ensures { result ≡ table_told (tableRead s.now) }
 {
-    host_answers::tell_table(table_reader::read(s))
+    table_reader::read(s).into()
 }
 
 // Tidies a rota into the area `out`.
@@ -58,7 +59,7 @@ pub extern "C" fn softlode_table_read(s: &[u8]) -> TableTold
 pub extern "C" fn softlode_rota_tidy(s: &[u8], out: &mut [u8]) -> TidiedTold
     ensures { (result ≡ tidied_told (tidy_outcome s.now (length out.old))) × (out.new ≡ area_tidied s.now out.old) }
 {
-    host_answers::tell_tidied(tidy_rota::tidy(s, out))
+    tidy_rota::tidy(s, out).into()
 }
 
 // Rewrites a rota into the area `out`.
@@ -66,7 +67,7 @@ pub extern "C" fn softlode_rota_tidy(s: &[u8], out: &mut [u8]) -> TidiedTold
 pub extern "C" fn softlode_rewrite(s: &[u8], out: &mut [u8]) -> WrittenTold
     ensures { (result ≡ written_told (rewrite_outcome s.now (length out.old))) × (out.new ≡ area_after s.now out.old) }
 {
-    host_answers::tell_written(rewrite::rewrite(s, out))
+    rewrite::rewrite(s, out).into()
 }
 
 // How large the table of a rota is, without an area.
@@ -74,14 +75,14 @@ pub extern "C" fn softlode_rewrite(s: &[u8], out: &mut [u8]) -> WrittenTold
 pub extern "C" fn softlode_rewrite_size(s: &[u8]) -> WrittenTold
     ensures { result ≡ written_told (size_outcome s.now) }
 {
-    host_answers::tell_written(rewrite::size(s))
+    rewrite::size(s).into()
 }
 
 #[unsafe(no_mangle)]
 pub extern "C" fn softlode_date(minute: u32) -> DateTold
     ensures { result ≡ date_told (date_of minute) }
 {
-    host_answers::tell_date(calendar::date_of(minute))
+    calendar::date_of(minute).into()
 }
 
 #[unsafe(no_mangle)]
@@ -94,7 +95,7 @@ pub extern "C" fn softlode_minute(
 ) -> MinuteTold
     ensures { result ≡ minute_told (minute_of year month day hour minute) }
 {
-    host_answers::tell_minute(calendar::minute_of(year, month, day, hour, minute))
+    calendar::minute_of(year, month, day, hour, minute).into()
 }
 
 // One question without a service, on a rota and on a table.
@@ -102,14 +103,14 @@ pub extern "C" fn softlode_minute(
 pub extern "C" fn softlode_rota_question(s: &[u8], u: u32, p: u32, t: u32) -> Told
     ensures { result ≡ question_told (question (rota_judged s.now) (rotaPolicy (rota_of s.now)) u p t) }
 {
-    host_answers::tell_answer(rota_answers::question(s, u, p, t))
+    rota_answers::question(s, u, p, t).into()
 }
 
 #[unsafe(no_mangle)]
 pub extern "C" fn softlode_table_question(s: &[u8], u: u32, p: u32, t: u32) -> Told
     ensures { result ≡ question_told (question (table_judged s.now) (tablePolicy (table_of s.now)) u p t) }
 {
-    host_answers::tell_answer(table_questions::question(s, u, p, t))
+    table_questions::question(s, u, p, t).into()
 }
 
 // When a permission can next be used, by a table.
@@ -117,7 +118,7 @@ pub extern "C" fn softlode_table_question(s: &[u8], u: u32, p: u32, t: u32) -> T
 pub extern "C" fn softlode_table_next(s: &[u8], u: u32, p: u32, m: u32) -> NextTold
     ensures { result ≡ next_told (next_use_question (table_judged s.now) (tablePolicy (table_of s.now)) u p m) }
 {
-    host_answers::tell_next(table_next::next_use(s, u, p, m))
+    table_next::next_use(s, u, p, m).into()
 }
 
 // The staff board of a minute, by a table.
@@ -134,10 +135,8 @@ pub extern "C" fn softlode_rota_page(questions: &mut [Question], s: &[u8]) -> u3
     ensures { (result ≡ page_judged Kind.Rota (length questions.old) s.now) × (questions.new ≡ page_after Kind.Rota s.now questions.old) }
 {
     let b = host_page::begin_rota(questions.len(), s);
-    let mut i = 0;
-    while i < b.count {
-        questions[i] = host_page::answer_by_rota(questions[i], s, b);
-        i += 1;
+    for i in 0..b.count {
+        questions[i] = host_page::answer_by_rota(questions[i], s, &b);
     }
     b.refusal
 }
@@ -147,10 +146,8 @@ pub extern "C" fn softlode_table_page(questions: &mut [Question], s: &[u8]) -> u
     ensures { (result ≡ page_judged Kind.Table (length questions.old) s.now) × (questions.new ≡ page_after Kind.Table s.now questions.old) }
 {
     let b = host_page::begin_table(questions.len(), s);
-    let mut i = 0;
-    while i < b.count {
-        questions[i] = host_page::answer_by_table(questions[i], s, b);
-        i += 1;
+    for i in 0..b.count {
+        questions[i] = host_page::answer_by_table(questions[i], s, &b);
     }
     b.refusal
 }
@@ -160,70 +157,54 @@ pub extern "C" fn softlode_table_page(questions: &mut [Question], s: &[u8]) -> u
 pub extern "C" fn softlode_rota_advance(service: &mut Service, s: &[u8], m: u32) -> Told
     ensures { leaving service.new result ≡ stepped_by (lent_step Kind.Rota s.now service.old (advance m)) }
 {
-    let r = host_calls::rota_advance_told(*service, s, m);
-    *service = r.service;
-    r.told
+    machine::leave(service::advance(Kind::Rota, s, *service, m), service).into()
 }
 
 #[unsafe(no_mangle)]
 pub extern "C" fn softlode_rota_open(service: &mut Service, s: &[u8], u: u32) -> Told
     ensures { leaving service.new result ≡ stepped_by (lent_step Kind.Rota s.now service.old («open» u)) }
 {
-    let r = host_calls::rota_open_told(*service, s, u);
-    *service = r.service;
-    r.told
+    machine::leave(service::open(Kind::Rota, s, *service, u), service).into()
 }
 
 #[unsafe(no_mangle)]
 pub extern "C" fn softlode_rota_close(service: &mut Service, s: &[u8], u: u32) -> Told
     ensures { leaving service.new result ≡ stepped_by (lent_step Kind.Rota s.now service.old (close u)) }
 {
-    let r = host_calls::rota_close_told(*service, s, u);
-    *service = r.service;
-    r.told
+    machine::leave(service::close(Kind::Rota, s, *service, u), service).into()
 }
 
 #[unsafe(no_mangle)]
 pub extern "C" fn softlode_rota_ask(service: &mut Service, s: &[u8], u: u32, p: u32) -> Told
     ensures { leaving service.new result ≡ stepped_by (lent_step Kind.Rota s.now service.old (ask u p)) }
 {
-    let r = host_calls::rota_ask_told(*service, s, u, p);
-    *service = r.service;
-    r.told
+    service::ask(Kind::Rota, s, *service, u, p).into()
 }
 
 #[unsafe(no_mangle)]
 pub extern "C" fn softlode_table_advance(service: &mut Service, s: &[u8], m: u32) -> Told
     ensures { leaving service.new result ≡ stepped_by (lent_step Kind.Table s.now service.old (advance m)) }
 {
-    let r = host_calls::table_advance_told(*service, s, m);
-    *service = r.service;
-    r.told
+    machine::leave(service::advance(Kind::Table, s, *service, m), service).into()
 }
 
 #[unsafe(no_mangle)]
 pub extern "C" fn softlode_table_open(service: &mut Service, s: &[u8], u: u32) -> Told
     ensures { leaving service.new result ≡ stepped_by (lent_step Kind.Table s.now service.old («open» u)) }
 {
-    let r = host_calls::table_open_told(*service, s, u);
-    *service = r.service;
-    r.told
+    machine::leave(service::open(Kind::Table, s, *service, u), service).into()
 }
 
 #[unsafe(no_mangle)]
 pub extern "C" fn softlode_table_close(service: &mut Service, s: &[u8], u: u32) -> Told
     ensures { leaving service.new result ≡ stepped_by (lent_step Kind.Table s.now service.old (close u)) }
 {
-    let r = host_calls::table_close_told(*service, s, u);
-    *service = r.service;
-    r.told
+    machine::leave(service::close(Kind::Table, s, *service, u), service).into()
 }
 
 #[unsafe(no_mangle)]
 pub extern "C" fn softlode_table_ask(service: &mut Service, s: &[u8], u: u32, p: u32) -> Told
     ensures { leaving service.new result ≡ stepped_by (lent_step Kind.Table s.now service.old (ask u p)) }
 {
-    let r = host_calls::table_ask_told(*service, s, u, p);
-    *service = r.service;
-    r.told
+    service::ask(Kind::Table, s, *service, u, p).into()
 }

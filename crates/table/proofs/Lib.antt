@@ -1,3 +1,4 @@
 pub mod FineLaws
 pub mod HeaderLaws
 pub mod EntryLaws
+pub mod OpenedLaws

@@ -1,5 +1,6 @@
 -- What the steps inside promise each other and the crates above, which no reader has to believe.
 use Rattle.std.specs.Prelude.{ℕ, List, ◌≡◌}
+use Rattle.std.proofs.Props.{props}
 use Rattle.ground.specs.Believed.Outcome.{Outcome, outcome}
 use Rattle.minutes.specs.Believed.Minutes.{Window}
 use Rattle.table.specs.Believed.Table.{Entry, Row}
@@ -20,6 +21,10 @@ pub record Headed (s : List ℕ) (n : Counts) : Type 0 where
 pub record Opened (s : List ℕ) (n : Counts) : Type 0 where
   pub clear : table_judged s ≡ 0
   pub counts : n ≡ counts_of s
+
+-- two proofs of it are one, as the invariant of a type needs
+pub Opened-prop : (s : List ℕ) (n : Counts) → IsProp (Opened s n)
+Opened-prop s n = Prim.hlevel props
 
 -- the window, the row and the entry of a call's values
 abbrev pub window_made : ℕ → ℕ → ℕ → ℕ → Window

@@ -4,7 +4,7 @@
 --     gather_none, gather-more, gather-all  the loop over the rows
 -- Assumes nothing.
 use Rattle.ground.proofs.BoolLaws.{and_yes, and_both, eq-ext}
-use Prim.Native.Nat.{ℕ, ◌+◌, ◌*◌, ◌^◌, ◌≤◌, ◌<◌}
+use Prim.Native.Nat.{ℕ, ◌+◌, ◌^◌, ◌≤◌, ◌<◌}
 use mathlib.Core.Path.{◌≡◌, refl, sym, ◌∙◌, ap}
 use mathlib.Core.List.{List}
 use mathlib.Core.Bool.{Bool, true, false, ◌&&◌}
@@ -20,17 +20,18 @@ use Rattle.bitset.proofs.SetLaws.{has-none, has-past, has-below, has-set_of, set
 use Rattle.bitset.proofs.GatherLaws.{gather-start, gather-union}
 use Rattle.policy.specs.Believed.Policy.{holds_any, holders_at}
 use Rattle.table.specs.Believed.Table.{policy_of}
-use Rattle.table.specs.Believed.TableBytes.{users_of, rows_of, row_of, table_of}
+use Rattle.table.specs.Believed.TableBytes.{users_of, rows_of, table_of}
 use Rattle.table.specs.Inside.{Opened}
-use Rattle.table_answers.specs.Grants.{row_users}
+use Rattle.table_answers.specs.Grants.{covering, owned, row_users}
+use Rattle.table_answers.proofs.GrantLaws.{grants-parts, grants-of}
 use Rattle.table.specs.declared.Counts.{Counts}
 use Rattle.table.proofs.HeaderLaws.{counts-are}
 use Rattle.table.proofs.FineLaws.{TableFine, table-fine}
-use Rattle.table_answers.proofs.AnswerLaws.{row_place, covering, owned, grant-parts, grant-of, yes-grants}
+use Rattle.table_answers.proofs.AnswerLaws.{yes-grants}
 
 -- user u is among the users of row i, which covers t
 abbrev pub row_has : List ℕ → ℕ → ℕ → ℕ → Bool
-row_has s t u i = has (row_users s t (row_place s i)) u
+row_has s t u i = has (row_users s t i) u
 
 pick-has : (c : Bool) (x u : ℕ) → has (pick c x 0) u ≡ (c && has x u)
 pick-has true x u = refl
@@ -38,11 +39,11 @@ pick-has false x u = has-none u
 
 module _ (s : List ℕ) (f : TableFine s) (t : ℕ) where
   pub row-has : (u i : ℕ) → row_has s t u i ≡ (covering s t i && has (owned s i).users u)
-  unfolding row_users row_of
+  unfolding row_users
   row-has u i = pick-has (covering s t i) (owned s i).users u
 
-  users-small : (i : ℕ) → i < rows_of s → row_users s t (row_place s i) < 2 ^ users_of s
-  unfolding row_users row_of
+  users-small : (i : ℕ) → i < rows_of s → row_users s t i < 2 ^ users_of s
+  unfolding row_users
   users-small i l = go (covering s t i) (f.entries _ (f.rows i l).alone.derived).users-below
     where
       go : (c : Bool) {x : ℕ} → x < 2 ^ users_of s → pick c x 0 < 2 ^ users_of s
@@ -54,7 +55,7 @@ module _ (s : List ℕ) (f : TableFine s) (t : ℕ) where
   holds_row u h =
       let p = any_out _ _ h in
       let k = any_out _ _ (sym (yes-grants s f u p.0 t) ∙ p.2) in
-      let g = grant-parts s u p.0 t k.0 k.2 in
+      let g = grants-parts s u p.0 t k.0 k.2 in
       any-stop _ _ k.0 k.1 (row-has u k.0 ∙ and_both (covering s t k.0) (has (owned s k.0).users u) g.0 g.1)
 
   row-holds : (u : ℕ) → any_below (rows_of s) (row_has s t u) ≡ true → holds_any (policy_of (table_of s)) t u ≡ true
@@ -65,7 +66,7 @@ module _ (s : List ℕ) (f : TableFine s) (t : ℕ) where
       let c = and_yes (covering s t k) (has (owned s k).users u) (sym (row-has u k) ∙ w.2) in
       let e = f.entries _ (f.rows k w.1).alone.derived in
       let p = any_out _ _ (some-member _ _ e.some-permission e.permissions-below) in
-      any-stop _ _ p.0 p.1 (yes-grants s f u p.0 t ∙ any-stop _ _ k w.1 (grant-of s u p.0 t k c.0 c.1 p.2))
+      any-stop _ _ p.0 p.1 (yes-grants s f u p.0 t ∙ any-stop _ _ k w.1 (grants-of s u p.0 t k c.0 c.1 p.2))
 
   pub holds-is : (u : ℕ) → holds_any (policy_of (table_of s)) t u ≡ any_below (rows_of s) (row_has s t u)
   holds-is u = eq-ext _ _ (holds_row u) (row-holds u)
@@ -83,22 +84,19 @@ module _ (s : List ℕ) (f : TableFine s) (t : ℕ) where
       go u true e = rw e (sym (holds-is u))
       go u false e = rw e (past u (ltb-false u (users_of s) e))
 
--- the loop over the rows, which begin at `first`
-unfoldable pub gathered : List ℕ → ℕ → ℕ → ℕ → ℕ
-gathered s t first i = set_of 64 (λ u. any_below i (λ k. has (row_users s t (first + 16 * k)) u))
+-- the loop over the rows
+unfoldable pub gathered : List ℕ → ℕ → ℕ → ℕ
+gathered s t i = set_of 64 (λ u. any_below i (row_has s t u))
 
-module _ (s : List ℕ) (t first : ℕ) where
-  pub gather_none : 0 ≡ gathered s t first 0
+module _ (s : List ℕ) (t : ℕ) where
+  pub gather_none : 0 ≡ gathered s t 0
   unfolding gathered
   gather_none = gather-start _
 
-  pub gather-more : (i x y z : ℕ) → x ≡ gathered s t first i → z ≡ row_users s t (first + 16 * i) → y ≡ union x z → y ≡ gathered s t first (i + 1)
+  pub gather-more : (i x y z : ℕ) → x ≡ gathered s t i → z ≡ row_users s t i → y ≡ union x z → y ≡ gathered s t (i + 1)
   unfolding gathered
   gather-more i x y z ex ez ey = gather-union _ i x y z ex (λ u l. ap (λ (m : ℕ). has m u) (sym ez)) ey
 
-pub gather-all : (s : List ℕ) (n : Counts) → Opened s n → (t i x : ℕ) → i ≡ n.rows → x ≡ gathered s t (16 + 17 * n.derived) i
-    → x ≡ holders_at (policy_of (table_of s)) t
-unfolding gathered
-gather-all s n o t i x ei ex =
-    let e = counts-are s n o.counts in
-    rw (ei, e.derived, e.rows) at ex ∙ holders-are s (table-fine s o.clear) t
+  pub gather-all : (n : Counts) → Opened s n → (x : ℕ) → x ≡ gathered s t n.rows → x ≡ holders_at (policy_of (table_of s)) t
+  unfolding gathered
+  gather-all n o x ex = rw (counts-are s n o.counts).rows at ex ∙ holders-are s (table-fine s o.clear) t

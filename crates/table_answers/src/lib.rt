@@ -1,111 +1,77 @@
 // What an accepted table answers: one question to it, and who holds a permission.
 #![tactic(auto)]
 
-ghost use Rattle.std.specs.Prelude.{◌≡◌, ◌+◌, ◌*◌, ◌%◌, ◌≤◌, ◌<◌, length};
-ghost use Rattle.ground.specs.Believed.Outcome.{given};
-ghost use Rattle.endian.specs.Believed.Numbers.{u32_at};
-ghost use Rattle.minutes.specs.Believed.Minutes.{covers};
-ghost use Rattle.policy.specs.Believed.Policy.{answer_given, holders_at};
+ghost use Rattle.std.specs.Prelude.{◌≡◌, ◌<◌};
+ghost use Rattle.policy.specs.Believed.Policy.{holders_at};
 ghost use Rattle.table.specs.Believed.Table.{answer, policy_of};
-ghost use Rattle.table.specs.Believed.TableBytes.{cycle_of, row_at_byte, table_of};
-ghost use Rattle.table.specs.Inside.{Opened};
-ghost use Rattle.table_answers.specs.Grants.{RowInside, both_at, row_grants, row_users};
+ghost use Rattle.table.specs.Believed.TableBytes.{table_of};
+ghost use Rattle.table_answers.specs.Grants.{covering, both_at, row_grants, row_users};
 
-use policy::Answer;
-use table::Counts;
+use table::{Moment, Table};
 
-// Whether the row at `at` covers minute t, whose phase is x.
-pub fn row_covers(s: &[u8], at: usize, t: u32, x: u32) -> bool
-    requires { (at + 16 ≤ length s.now) × (x ≡ t % cycle_of s.now) }
-    ensures { result ≡ covers (cycle_of s.now) (row_at_byte s.now at).window t }
+// Whether row i covers the minute.
+#[tactic(auto, unfolding(minutes::specs::Believed::Minutes::covers, minutes::specs::Believed::Minutes::in_phase))]
+pub fn row_covers(moment: &Moment<'_>, i: usize) -> bool
+    requires { i < moment.now.table.counts.rows }
+    ensures { result ≡ covering moment.now.table.bytes.now moment.now.minute i }
 {
-    let w = table::read_window(s, at);
-    if minutes::during(w.begin, w.end, t) {
-        minutes::in_span(w.offset as u32, w.length as u32, x)
-    } else {
-        false
-    }
+    let w = moment.table.window(i);
+    minutes::during(w.begin, w.end, moment.minute)
+        && minutes::in_span(w.offset as u32, w.length as u32, moment.phase)
 }
 
-// Where the entry of the row at `at` begins.
-pub fn entry_place(s: &[u8], at: usize) -> usize
-    requires { at + 16 ≤ length s.now }
-    ensures { result ≡ 16 + 17 * u32_at s.now at }
+// Whether the entry of row i has both bits set.
+pub fn has_both(table: &Table<'_>, i: usize, u: u32, p: u32) -> bool
+    requires { (i < table.now.counts.rows) × (u < 64) × (p < 64) }
+    ensures { result ≡ both_at table.now.bytes.now u p i }
 {
-    16 + 17 * (endian::read32(s, at) as usize)
+    bitset::contains(table.users(i), u) && bitset::contains(table.permissions(i), p)
 }
 
-// Whether the entry of the row at `at` has both bits set.
-pub fn has_both(s: &[u8], at: usize, u: u32, p: u32) -> bool
-    requires { RowInside s.now at × (u < 64) × (p < 64) }
-    ensures { result ≡ both_at s.now u p at }
+// Whether row i covers the minute, and its entry has both bits set.
+#[tactic(auto, unfolding(crate::specs::Grants::row_grants))]
+fn row_grants(moment: &Moment<'_>, i: usize, u: u32, p: u32) -> bool
+    requires { (i < moment.now.table.counts.rows) × (u < 64) × (p < 64) }
+    ensures { result ≡ row_grants moment.now.table.bytes.now u p moment.now.minute i }
 {
-    let e = entry_place(s, at);
-    if bitset::contains(endian::read64(s, e + 1), u) {
-        bitset::contains(endian::read64(s, e + 9), p)
-    } else {
-        false
-    }
-}
-
-// Whether the row at `at` covers minute t, whose phase is x, and its entry has both bits set.
-fn row_grants(s: &[u8], at: usize, u: u32, p: u32, t: u32, x: u32) -> bool
-    requires { RowInside s.now at × (x ≡ t % cycle_of s.now) × (u < 64) × (p < 64) }
-    ensures { result ≡ row_grants s.now u p t at }
-{
-    if row_covers(s, at, t, x) {
-        has_both(s, at, u, p)
-    } else {
-        false
-    }
+    row_covers(moment, i) && has_both(&moment.table, i, u, p)
 }
 
 // The answer of an accepted table: rows go by source role, so the first row that grants has the lowest.
-pub fn answer_in(s: &[u8], n: Counts, u: u32, p: u32, t: u32) -> Answer
-    requires { Opened s.now n × (u < n.users) × (p < n.permissions) }
-    ensures { answer_given result ≡ given (answer (table_of s.now) u p t) }
+pub fn answer_in(table: &Table<'_>, u: u32, p: u32, t: u32) -> Option<u8>
+    requires { (u < table.now.counts.users) × (p < table.now.counts.permissions) }
+    ensures { result ≡ answer (table_of table.now.bytes.now) u p t }
 {
-    let first = 16 + 17 * (n.derived as usize);
-    let rows = n.rows as usize;
-    let x = minutes::phase(n.cycle, t);
-    let mut k = 0;
-    while k < rows {
-        let at = first + 16 * k;
-        if row_grants(s, at, u, p, t, x) {
-            let e = entry_place(s, at);
-            return Answer::Yes(s[e]);
+    let moment = table.at(t);
+    for k in 0..table.rows() {
+        if row_grants(&moment, k, u, p) {
+            return Some(table.source(k));
         }
-        k += 1;
     }
-    Answer::No
+    None
 }
 
-// The users of the entry of the row at `at` where the row covers minute t, whose phase is x, else none.
-fn row_users(s: &[u8], at: usize, t: u32, x: u32) -> u64
-    requires { RowInside s.now at × (x ≡ t % cycle_of s.now) }
-    ensures { result ≡ row_users s.now t at }
+// The users of the entry of row i where the row covers the minute, else none.
+#[tactic(auto, unfolding(crate::specs::Grants::row_users))]
+fn row_users(moment: &Moment<'_>, i: usize) -> u64
+    requires { i < moment.now.table.counts.rows }
+    ensures { result ≡ row_users moment.now.table.bytes.now moment.now.minute i }
 {
-    if row_covers(s, at, t, x) {
-        let e = entry_place(s, at);
-        endian::read64(s, e + 1)
+    if row_covers(moment, i) {
+        moment.table.users(i)
     } else {
         0
     }
 }
 
 // The users of every row of an accepted table that covers minute t.
-pub fn holders_in(s: &[u8], n: Counts, t: u32) -> u64
-    requires { Opened s.now n }
-    ensures { result ≡ holders_at (policy_of (table_of s.now)) t }
+pub fn holders_in(table: &Table<'_>, t: u32) -> u64
+    ensures { result ≡ holders_at (policy_of (table_of table.now.bytes.now)) t }
 {
-    let first = 16 + 17 * (n.derived as usize);
-    let rows = n.rows as usize;
-    let x = minutes::phase(n.cycle, t);
+    let moment = table.at(t);
     let mut set = 0;
-    let mut i = 0;
-    while i < rows {
-        set = bitset::either(set, row_users(s, first + 16 * i, t, x));
-        i += 1;
+    for i in 0..table.rows() {
+        set = bitset::either(set, row_users(&moment, i));
     }
     set
 }

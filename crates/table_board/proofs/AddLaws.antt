@@ -1,8 +1,7 @@
 -- Permissions added to the sets of users, one user after the other.
 --     added_none, added-turn     no user is left; one is done, and the others are added to what there is then
---     added-row                  what the code reads of the row at a position, and adds
 -- Assumes nothing.
-use Prim.Native.Nat.{ℕ, ◌+◌, ◌*◌, ◌<◌}
+use Prim.Native.Nat.{ℕ, ◌<◌}
 use mathlib.Core.Path.{◌≡◌, refl, sym, ◌∙◌, ap}
 use mathlib.Core.Bool.{Bool, true, false}
 use mathlib.Core.List.{List}
@@ -14,11 +13,9 @@ use borrow.Author.Tests.{eqb-true, eqb-false}
 use Rattle.ground.specs.Believed.Choice.{pick}
 use Rattle.ground.proofs.BoolLaws.{pick-false}
 use Rattle.ground.proofs.SequenceLaws.{list_of-same, list_of-is}
-use Rattle.endian.specs.Believed.Numbers.{u32_at, u64_at}
 use Rattle.bitset.specs.Believed.Sets.{has, remove, union}
 use Rattle.bitset.proofs.SetLaws.{has-none, remove-self, remove-other}
-use Rattle.table.specs.Believed.TableBytes.{entry_of}
-use Rattle.table_board.specs.Rows.{added, added_row}
+use Rattle.table_board.specs.Rows.{added}
 
 pub added_none : (rights : List ℕ) (users permissions : ℕ) → length rights ≡ 64 → users ≡ 0 → added rights users permissions ≡ rights
 unfolding added
@@ -45,8 +42,3 @@ module _ (rights : List ℕ) (users permissions i : ℕ) (n : length rights ≡ 
       → added rights users permissions ≡ added (set rights i x) r permissions
   unfolding added
   added-turn x r ex er = rw (ex, er) (list_of-same 64 _ _ one-done)
-
-pub added-row : (rights s : List ℕ) (at e users permissions : ℕ) → e ≡ 16 + 17 * u32_at s at → users ≡ u64_at s (e + 1) → permissions ≡ u64_at s (e + 9)
-    → added rights users permissions ≡ added_row rights s at
-unfolding added_row entry_of
-added-row rights s at e users permissions ee eu ep = rw (eu, ep, ee) refl

@@ -21,7 +21,8 @@ use Rattle.table.specs.Believed.Table.{answer, policy_of}
 use Rattle.table.specs.Believed.TableBytes.{users_of, rows_of, table_of}
 use Rattle.table.specs.Believed.TableRefusals.{table_judged}
 use Rattle.table.proofs.FineLaws.{table-fine}
-use Rattle.table_answers.proofs.AnswerLaws.{grants, yes-grants}
+use Rattle.table_answers.specs.Grants.{row_grants}
+use Rattle.table_answers.proofs.AnswerLaws.{yes-grants}
 use Rattle.table_board.specs.Believed.Board.{board_of, rows_at}
 use Rattle.table_board.proofs.RowLaws.{past-users, shown-has, count-roles}
 
@@ -34,11 +35,11 @@ board-none π t u m =
     (lt-or-le u 64)
 
 module _ (s : List ℕ) (a : table_judged s ≡ 0) (t : ℕ) where
-  below_64 : (u p : ℕ) → u < 64 → has (get_or (board_of (policy_of (table_of s)) t) u 0) p ≡ any_below (rows_of s) (grants s u p t)
+  below_64 : (u p : ℕ) → u < 64 → has (get_or (board_of (policy_of (table_of s)) t) u 0) p ≡ any_below (rows_of s) (row_grants s u p t)
   unfolding board_of table_of
   below_64 u p l = ap (λ (x : ℕ). has x p) (get-list_of 64 _ 0 u l) ∙ shown-has s (table-fine s a) t u p
 
-  from-64 : (u p : ℕ) → 64 ≤ u → has (get_or (board_of (policy_of (table_of s)) t) u 0) p ≡ any_below (rows_of s) (grants s u p t)
+  from-64 : (u p : ℕ) → 64 ≤ u → has (get_or (board_of (policy_of (table_of s)) t) u 0) p ≡ any_below (rows_of s) (row_grants s u p t)
   unfolding table_of
   from-64 u p l =
       let m : users_of s ≤ u = omega (arith, (table-fine s a).header.users-most) in

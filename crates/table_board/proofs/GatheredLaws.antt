@@ -1,18 +1,18 @@
 -- A loop that gathers 64 sets and counts, turn by turn: what it has after some of its turns.
 --     gathered_none, gathered-in, gathered-out     no turn; one that counts and adds permissions to the sets of users; one that does neither
---     gathered-length, gathered-few                there are 64 sets, and at most as many turns count as there were
+--     gathered-few                                 at most as many turns count as there were
 -- Assumes nothing.
 use Prim.Native.Nat.{ℕ, ◌+◌, ◌≤◌, ◌<◌}
 use mathlib.Core.Path.{◌≡◌, refl, sym, ◌∙◌, ap, ap₂}
 use mathlib.Core.Bool.{Bool, true, false, ◌&&◌, ◌||◌, or-false}
 use mathlib.Core.List.{List}
 use native.Mathlib.Nat.{add-zero}
-use lib.ListN.{length, get_or, replicate, get_or-replicate}
+use lib.ListN.{get_or, replicate, get_or-replicate}
 use Rattle.ground.specs.Believed.Choice.{pick}
 use Rattle.ground.specs.Believed.Search.{any_below, one, count_below}
 use Rattle.ground.specs.Believed.Sequence.{list_of}
 use Rattle.ground.proofs.SearchLaws.{any-turn, count_none, count_turn, count_most}
-use Rattle.ground.proofs.SequenceLaws.{list_of-length, get-list_of, list_of-same, list_of-is}
+use Rattle.ground.proofs.SequenceLaws.{get-list_of, list_of-same, list_of-is}
 use Rattle.bitset.specs.Believed.Sets.{has, set_of, union}
 use Rattle.bitset.proofs.SetLaws.{set_of-same}
 use Rattle.bitset.proofs.GatherLaws.{gather-start, gather-union}
@@ -32,9 +32,6 @@ module _ (grant : ℕ → ℕ → ℕ → Bool) (on : ℕ → Bool) where
       }
 
   module _ (i : ℕ) (rights : List ℕ) (rows : ℕ) (g : Gathered grant on i rights rows) where
-    pub gathered-length : length rights ≡ 64
-    gathered-length = ap length g.sets ∙ list_of-length 64 _
-
     pub gathered-few : rows ≤ i
     gathered-few = rw g.count (count_most _ i)
 

@@ -10,15 +10,15 @@ use mathlib.Core.Path.{◌≡◌, refl, sym, ◌∙◌, ap}
 use mathlib.Core.Logic.{⊎_elim}
 use mathlib.Core.Bool.{Bool, true, false, ◌&&◌, ◌||◌, not}
 use mathlib.Core.List.{List}
+use Rattle.std.proofs.Common.{None, Some}
 use native.Mathlib.Nat.{le_refl, eq-or-lt_of_le}
 use native.Mathlib.Omega.{arith}
 use lib.Pow.{pow_pos}
-use borrow.Author.Tests.{eq-eqb, eqb-true}
+use borrow.Author.Tests.{eq-eqb}
 use lib.Dec.{eqb}
 use Rattle.ground.specs.Believed.Search.{any_below}
 use Rattle.ground.proofs.BoolLaws.{and_yes, and_both, and-three, and-all, or_yes, or_left, clash, eq-ext}
 use Rattle.ground.proofs.SearchLaws.{any_out, any-stop}
-use Rattle.endian.specs.Believed.Numbers.{u32_at, u64_at}
 use Rattle.bitset.specs.Believed.Sets.{has, union, intersection, difference}
 use Rattle.bitset.proofs.SetLaws.{has-none, has-below, has-union, has-intersection, has-difference, has-not, intersection-lt, ext, set_of-lt, fits-64}
 use Rattle.minutes.specs.Believed.Minutes.{E, Window, covers}
@@ -27,14 +27,14 @@ use Rattle.minutes.proofs.LastingLaws.{lasting-at, lasting-shorter, lasting-on, 
 use Rattle.policy.specs.Held.{HeldAmong}
 use Rattle.policy.specs.Believed.Policy.{holds_any, holders_at}
 use Rattle.table.specs.Believed.Table.{policy_of}
-use Rattle.table.specs.Believed.TableBytes.{cycle_of, users_of, roles_of, rows_of, entry_of, row_at_byte, row_of, table_of}
+use Rattle.table.specs.Believed.TableBytes.{cycle_of, users_of, roles_of, rows_of, row_of, table_of}
 use Rattle.table.specs.Believed.TableRefusals.{source_of, table_judged}
 use Rattle.table.specs.Inside.{Opened, window_given}
 use Rattle.table.specs.declared.Counts.{Counts}
 use Rattle.table.specs.declared.Window as declared
 use Rattle.table.proofs.HeaderLaws.{counts-are}
 use Rattle.table.proofs.FineLaws.{TableFine, table-fine}
-use Rattle.table_answers.proofs.AnswerLaws.{covering, owned}
+use Rattle.table_answers.specs.Grants.{covering, owned}
 use Rattle.table_answers.proofs.HoldersLaws.{row_has, row-has, holds-is, holders-are}
 use Rattle.table_search.specs.Rows.{row_for}
 use Rattle.table_search.proofs.StageLaws.{row-found, row-there}
@@ -54,16 +54,15 @@ of-everyone x l e =
     e ∙ ext 64 _ x (intersection-lt 18446744073709551615 x) l
     (λ u k. has-intersection 18446744073709551615 x u k ∙ ap (λ (b : Bool). b && has x u) (has-not 64 0 u (pow_pos 64) k ∙ ap not (has-none u)))
 
--- the tests of the code: a row whose entry begins at e, and whose users are y
-pub went_on : (s : List ℕ) (at t stop era gain : ℕ) (w : declared.Window) → window_given w ≡ (row_at_byte s at).window → w.offset ≡ stop → w.begin ≤ t
-    → era ≤ w.end → (e y d : ℕ) → e ≡ 16 + 17 * u32_at s at → y ≡ u64_at s (e + 1) → d ≡ difference gain y → eqb d 0 ≡ true → GoesOn s at t stop era gain
-unfolding entry_of
-went_on s at t stop era gain w ew eo b l e y d ee ey ed z =
+-- the tests of the code: row i has window w and users y
+pub went_on : (s : List ℕ) (i t stop era gain : ℕ) (w : declared.Window) → window_given w ≡ (row_of s i).window → w.offset ≡ stop → w.begin ≤ t → era ≤ w.end
+    → (y d : ℕ) → y ≡ (owned s i).users → d ≡ difference gain y → d ≡ 0 → GoesOn s i t stop era gain
+went_on s i t stop era gain w ew eo b l y d ey ed z =
     record {
       offset = sym (ap (λ (v : Window). v.offset) ew) ∙ eo;
       begun = omega (arith, ap (λ (v : Window). v.begin) ew);
       lasting = omega (arith, ap (λ (v : Window). v.end) ew);
-      users = λ u k h. ap (λ (x : ℕ). has x u) (sym (ey ∙ ap (λ (x : ℕ). u64_at s (x + 1)) ee)) ∙ not-lost gain y u k (sym ed ∙ eqb-true d 0 z) h;
+      users = λ u k h. ap (λ (x : ℕ). has x u) (sym ey) ∙ not-lost gain y u k (sym ed ∙ z) h;
     }
 
 module _ (s : List ℕ) (a : table_judged s ≡ 0) where
@@ -224,16 +223,16 @@ module _ (s : List ℕ) (a : table_judged s ≡ 0) where
       pub held-everyone : set ≡ among → HeldAmong (policy_of (table_of s)) (cycle_of s) among t set until era
       held-everyone e = settled (λ u k m h. rw e m)
 
-  -- ---- the row of role r at t, which is row k
-  module _ (r t k : ℕ) (ek : k ≡ row_for s r t) where
-    pub its-row : (u i : ℕ) → source_of s i ≡ r → Gives s t u i → i ≡ k
-    its-row u i e g = row-found s a r t i g.below (and_both (eqb (source_of s i) r) (covering s t i) (eq-eqb (source_of s i) r e) g.covering) ∙ sym ek
+  -- ---- the row of role r at t, which is row k, or there is none
+  module _ (r t u i : ℕ) (e : source_of s i ≡ r) (g : Gives s t u i) where
+    found : Some i ≡ row_for s r t
+    found = row-found s a r t i g.below (and_both (eqb (source_of s i) r) (covering s t i) (eq-eqb (source_of s i) r e) g.covering)
 
-    pub no_row : rows_of s ≤ k → (u i : ℕ) → source_of s i ≡ r → Gives s t u i → ⊥
-    no_row l u i e g = omega (arith, its-row u i e g, g.below)
+    pub its-row : (k : ℕ) → Some k ≡ row_for s r t → i ≡ k
+    its-row k ek = let z : Some i ≡ Some k = found ∙ sym ek in cc
 
-    pub row-covers : k < rows_of s → covers (cycle_of s) (row_of s k).window t ≡ true
-    row-covers l = (row-there s r t k ek l).1
+    pub no_row : None ≡ row_for s r t → ⊥
+    no_row ek = let z : Some i ≡ None = found ∙ sym ek in cc
 
 -- the same of the counts that were read
 module _ (s : List ℕ) (n : Counts) (o : Opened s n) where
@@ -246,9 +245,6 @@ module _ (s : List ℕ) (n : Counts) (o : Opened s n) where
   pub roles-few : n.roles ≤ 32
   roles-few = omega (arith, roles-are, (table-fine s o.clear).header.roles-most)
 
-  pub cycle-some : 0 < n.cycle
-  cycle-some = omega (arith, (counts-are s n o.counts).cycle, (table-fine s o.clear).header.cycle-some)
-
   pub holders-few : (t : ℕ) → holders_at (policy_of (table_of s)) t < 2 ^ 64
   unfolding holders_at table_of
   holders-few t = fits-64 (users_of s) _ (table-fine s o.clear).header.users-most
@@ -256,18 +252,14 @@ module _ (s : List ℕ) (n : Counts) (o : Opened s n) where
   pub cycle-few : cycle_of s ≤ 40320
   cycle-few = (table-fine s o.clear).header.cycle-most
 
-  -- row k is the one of role r at t; gain are those of `among` whom it has, without the set
-  module _ (r among t k set : ℕ) (ek : k ≡ row_for s r t) (l : k < n.rows) (e y b gain : ℕ) (ee : e ≡ 16 + 17 * u32_at s (16 + 17 * n.derived + 16 * k))
-      (ey : y ≡ u64_at s (e + 1)) (eb : b ≡ intersection among y) (eg : gain ≡ difference b set) where
-    users-are : y ≡ (owned s k).users
-    unfolding row_of entry_of
-    users-are = ey ∙ ap (λ (x : ℕ). u64_at s (x + 1)) (rw (counts-are s n o.counts).derived at ee)
-
+  -- row k is the one of role r at t, and its users are y; gain are those of `among` whom it has, without the set
+  module _ (r among t k set : ℕ) (ek : Some k ≡ row_for s r t) (y b gain : ℕ) (ey : y ≡ (owned s k).users) (eb : b ≡ intersection among y)
+      (eg : gain ≡ difference b set) where
     gain-is : (u : ℕ) → u < 64 → has gain u ≡ (has among u && has (owned s k).users u && not (has set u))
     gain-is u m =
         ap (λ (x : ℕ). has x u) eg
         ∙ has-difference b set u m
-        ∙ ap (λ (c : Bool). c && not (has set u)) (ap (λ (x : ℕ). has x u) eb ∙ has-intersection among y u m ∙ ap (λ (x : ℕ). has among u && has x u) users-are)
+        ∙ ap (λ (c : Bool). c && not (has set u)) (ap (λ (x : ℕ). has x u) eb ∙ has-intersection among y u m ∙ ap (λ (x : ℕ). has among u && has x u) ey)
 
     pub gain-among : (u : ℕ) → u < 64 → has gain u ≡ true → (has among u ≡ true) × (has (owned s k).users u ≡ true)
     gain-among u m h =
@@ -279,7 +271,7 @@ module _ (s : List ℕ) (n : Counts) (o : Opened s n) where
     gain-all u i m h e g = has-union set gain u m ∙ go (has set u) refl
       where
         member : has (owned s k).users u ≡ true
-        member = ap (λ (j : ℕ). has (owned s j).users u) (sym (its-row s o.clear r t k ek u i e g)) ∙ g.member
+        member = ap (λ (j : ℕ). has (owned s j).users u) (sym (its-row s o.clear r t u i e g k ek)) ∙ g.member
 
         go : (c : Bool) → has set u ≡ c → (c || has gain u) ≡ true
         go true w = refl
@@ -291,28 +283,24 @@ module _ (s : List ℕ) (n : Counts) (o : Opened s n) where
         (or_yes (has set u) (has gain u) (sym (has-union set gain u m) ∙ gain-all u i m h e g))
 
     -- how far it reaches by itself: w is its window
-    module _ (x : ℕ) (ex : x ≡ t % cycle_of s) (w : declared.Window) (ew : window_given w ≡ (row_at_byte s (16 + 17 * n.derived + 16 * k)).window) where
-      window-is : window_given w ≡ (row_of s k).window
-      unfolding row_of
-      window-is = rw (counts-are s n o.counts).derived at ew
-
+    module _ (x : ℕ) (ex : x ≡ t % cycle_of s) (w : declared.Window) (ew : window_given w ≡ (row_of s k).window) where
       covered : covers (cycle_of s) (row_of s k).window t ≡ true
-      covered = row-covers s o.clear r t k ek (omega (arith, rows_are))
+      covered = (row-there s r t k (sym ek)).2
 
       pub row-reaches : (stop : ℕ) → stop ≡ w.offset + w.length → Reaching s t x stop w.end gain
       row-reaches stop es =
-          rw (ap (λ (v : Window). v.end) window-is)
-          (reach-row s o.clear k (omega (arith, rows_are)) t x gain ex (λ u m h. (gain-among u m h).1) covered stop
-          (es ∙ ap (λ (v : Window). v.offset + v.length) window-is))
+          rw (ap (λ (v : Window). v.end) ew)
+          (reach-row s o.clear k (row-there s r t k (sym ek)).0 t x gain ex (λ u m h. (gain-among u m h).1) covered stop
+          (es ∙ ap (λ (v : Window). v.offset + v.length) ew))
 
       pub row-dates : t < w.end
-      row-dates = omega (arith, (covers-in covered).to, ap (λ (v : Window). v.end) window-is)
+      row-dates = omega (arith, (covers-in covered).to, ap (λ (v : Window). v.end) ew)
 
-  pub reach-read : (i : ℕ) → i < n.rows → (t x far stop era gain : ℕ) → x ≡ t % cycle_of s → Reaching s t x far era gain
-      → GoesOn s (16 + 17 * n.derived + 16 * i) t far era gain → stop ≡ far + (row_at_byte s (16 + 17 * n.derived + 16 * i)).window.length
-      → Reaching s t x stop era gain
-  unfolding row_of
+  pub reach-read : (i : ℕ) → i < n.rows → (t x far stop era gain : ℕ) → x ≡ t % cycle_of s → Reaching s t x far era gain → GoesOn s i t far era gain
+      → stop ≡ far + (row_of s i).window.length → Reaching s t x stop era gain
   reach-read i l t x far stop era gain ex w g es =
-      let g' = rw (counts-are s n o.counts).derived at g in
-      reach-on s o.clear i (omega (arith, rows_are)) t x gain ex g'.users far stop era w g'.offset g'.begun g'.lasting
-      (rw (counts-are s n o.counts).derived at es)
+      reach-on s o.clear i (omega (arith, rows_are)) t x gain ex g.users far stop era w g.offset g.begun g.lasting es
+
+  -- the row of a role is one of the rows
+  pub row-below : (r t k : ℕ) → Some k ≡ row_for s r t → k < n.rows
+  row-below r t k e = omega (arith, (row-there s r t k (sym e)).0, rows_are)

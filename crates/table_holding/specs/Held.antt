@@ -6,7 +6,7 @@ use Rattle.minutes.specs.Believed.Minutes.{E, covers}
 use Rattle.minutes.specs.Lasting.{Lasting}
 use Rattle.policy.specs.Believed.Policy.{holds_any}
 use Rattle.table.specs.Believed.Table.{policy_of}
-use Rattle.table.specs.Believed.TableBytes.{cycle_of, rows_of, entry_of, row_of, row_at_byte, table_of}
+use Rattle.table.specs.Believed.TableBytes.{cycle_of, rows_of, entry_of, row_of, table_of}
 use Rattle.table.specs.Believed.TableRefusals.{source_of}
 
 -- user u holds a permission to before `until`, and, by the cycle, to before `era`
@@ -35,9 +35,9 @@ pub record Reaching (s : List ℕ) (t x stop era gain : ℕ) : Type 0 where
   pub after : x < stop
   pub in-cycle : stop ≤ cycle_of s
 
--- the row at a position begins at phase `stop`; its dates have begun at minute t and do not end before `era`, and its users are all of `gain`
-pub record GoesOn (s : List ℕ) (at t stop era gain : ℕ) : Type 0 where
-  pub offset : (row_at_byte s at).window.offset ≡ stop
-  pub begun : (row_at_byte s at).window.begin ≤ t
-  pub lasting : era ≤ (row_at_byte s at).window.end
-  pub users : (u : ℕ) → u < 64 → has gain u ≡ true → has (entry_of s (row_at_byte s at).derived).users u ≡ true
+-- row i begins at phase `stop`; its dates have begun at minute t and do not end before `era`, and its users are all of `gain`
+pub record GoesOn (s : List ℕ) (i t stop era gain : ℕ) : Type 0 where
+  pub offset : (row_of s i).window.offset ≡ stop
+  pub begun : (row_of s i).window.begin ≤ t
+  pub lasting : era ≤ (row_of s i).window.end
+  pub users : (u : ℕ) → u < 64 → has gain u ≡ true → has (entry_of s (row_of s i).derived).users u ≡ true

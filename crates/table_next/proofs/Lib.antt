@@ -1,2 +1,1 @@
-pub mod IdleLaws
 pub mod PassLaws

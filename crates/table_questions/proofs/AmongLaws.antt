@@ -1,28 +1,25 @@
 -- The row of a role that covers a minute, among the rows of that role.
---     begun-over, begun-by, begun-not            whether a window has begun, by the tests of the code
---     Left, left-all, left_up, left_down         the rows that are left to look at
+--     Left, left_up, left_down                   the rows that are left to look at
 --     among_none, among-last, among-gone         the last row that has begun covers the minute, or none does
 -- Assumes nothing.
-use Prim.Native.Nat.{ℕ, ◌+◌, ◌*◌, ◌%◌, ◌≤◌, ◌<◌}
-use mathlib.Core.Path.{◌≡◌, refl, sym, ◌∙◌, ap, ap₂}
+use Prim.Native.Nat.{ℕ, ◌+◌, ◌%◌, ◌≤◌, ◌<◌}
+use mathlib.Core.Path.{◌≡◌, sym, ◌∙◌, ap}
 use mathlib.Core.Logic.{◌⊎◌, inl, inr, ⊎_elim}
 use mathlib.Core.Bool.{Bool, true, false, ◌&&◌}
 use mathlib.Core.List.{List}
+use Rattle.std.proofs.Common.{None, Some}
 use native.Mathlib.Nat.{le_refl}
 use native.Mathlib.Omega.{arith}
-use borrow.Author.Tests.{le-leb, lt-leb, leb-true, leb-false, eq-eqb, ne_eqb}
+use borrow.Author.Tests.{le-leb, leb-true, leb-false, eq-eqb, ne_eqb}
 use lib.Dec.{leb}
-use lib.ListN.{length}
 use Rattle.ground.proofs.BoolLaws.{and_yes, or_yes, or_no, lt-or-le}
 use Rattle.minutes.specs.Believed.Minutes.{Window, covers}
-use Rattle.table.specs.Believed.TableBytes.{cycle_of, rows_of, row_at_byte, row_of}
+use Rattle.table.specs.Believed.TableBytes.{cycle_of, rows_of, row_of}
 use Rattle.table.specs.Believed.TableRefusals.{source_of}
-use Rattle.table.specs.Inside.{Opened, window_given}
+use Rattle.table.specs.Inside.{Opened}
 use Rattle.table.specs.declared.Counts.{Counts}
-use Rattle.table.specs.declared.Window as declared
-use Rattle.table_answers.proofs.AnswerLaws.{row_inside}
 use Rattle.table_search.specs.Rows.{covers_for, row_for}
-use Rattle.table_search.proofs.StageLaws.{none-begun, none_ahead, row-found, row-none, window-read}
+use Rattle.table_search.proofs.StageLaws.{none-begun, none_ahead, row-found, row-none}
 use Rattle.table_questions.specs.Starts.{BeginsAt, has_begun}
 
 -- ---- a window that has begun, and one that has not
@@ -43,25 +40,6 @@ module _ (w : Window) (t x : ℕ) where
       (λ (l : t < w.begin). inl l)
       (λ (l : w.begin ≤ t). inr (leb-false _ _ z.0, leb-false _ _ (simp (le-leb _ _ l) at z.1)))
       (lt-or-le t w.begin)
-
--- ---- the tests of the code
-module _ (w : declared.Window) (v : Window) (t x : ℕ) (ew : window_given w ≡ v) where
-  pub begun-over : w.end ≤ t → true ≡ has_begun v t x
-  unfolding has_begun
-  begun-over h = rw (← ew) (simp (le-leb _ _ h))
-
-  module _ (l : t < w.end) where
-    pub begun-by : w.begin ≤ t → leb w.offset x ≡ has_begun v t x
-    unfolding has_begun
-    begun-by h = rw (← ew) (simp (lt-leb _ _ l, le-leb _ _ h))
-
-    pub begun-not : t < w.begin → false ≡ has_begun v t x
-    unfolding has_begun
-    begun-not h = rw (← ew) (simp (lt-leb _ _ l, lt-leb _ _ h))
-
--- a row lies inside the bytes
-pub row_room : (s : List ℕ) (n : Counts) → Opened s n → (i : ℕ) → i < n.rows → 16 + 17 * n.derived + 16 * i + 16 ≤ length s
-row_room s n o i l = (row_inside s n o i l).row
 
 -- ---- rows first to before past are those of role r, and rows a to before b of them are left to look at: of those before only the last may cover
 -- minute t, and none of those after does
@@ -84,31 +62,14 @@ module _ (s : List ℕ) (n : Counts) (o : Opened s n) (r t first past : ℕ) (f 
   before-first : (i : ℕ) → i < first → covers_for s r t i ≡ false
   before-first i l = other-role s r t i (λ e. omega (arith, f.below i l))
 
-  in-turn : first ≤ past
-  in-turn =
-      ⊎_elim
-      (λ (l : past < first). absurd (omega (arith, f.below past l, g.above past (le_refl past) (omega (arith, f.most)))))
-      (λ (l : first ≤ past). l)
-      (lt-or-le past first)
-
-  pub left-all : Left s r t first past first past
-  left-all =
-      record {
-        from = le_refl first;
-        ordered = in-turn;
-        to = le_refl past;
-        below = λ i l. before-first i (omega arith);
-        above = λ i l m. other-role s r t i (λ e. omega (arith, g.above i l m));
-      }
-
   -- v is whether row m has begun
   module _ (a b m : ℕ) (w : Left s r t first past a b) (from : a ≤ m) (l : m < b) (v : Bool) (x : ℕ) (ex : x ≡ t % cycle_of s)
-      (ev : v ≡ has_begun (row_at_byte s (16 + 17 * n.derived + 16 * m)).window t x) where
+      (ev : v ≡ has_begun (row_of s m).window t x) where
     abbrev W : Window
     W = (row_of s m).window
 
     here : v ≡ has_begun W t (t % cycle_of s)
-    here = ev ∙ ap₂ (λ (z : Window) (y : ℕ). has_begun z t y) (window-read s n o m _ refl) ex
+    here = ev ∙ ap (has_begun W t) ex
 
     same : source_of s m ≡ r
     same = of-role m (omega (arith, w.from)) (omega (arith, w.to))
@@ -138,7 +99,7 @@ module _ (s : List ℕ) (n : Counts) (o : Opened s n) (r t first past : ℕ) (f 
 
   -- nothing is left
   module _ (a b : ℕ) (w : Left s r t first past a b) (l : b ≤ a) where
-    none_of : ((i : ℕ) → i < a → covers_for s r t i ≡ false) → n.rows ≡ row_for s r t
+    none_of : ((i : ℕ) → i < a → covers_for s r t i ≡ false) → None ≡ row_for s r t
     none_of h =
         row-none s n o r t a a
         (record {
@@ -150,21 +111,21 @@ module _ (s : List ℕ) (n : Counts) (o : Opened s n) (r t first past : ℕ) (f 
         (le_refl a)
 
     -- no row has begun
-    pub among_none : a ≤ first → n.rows ≡ row_for s r t
+    pub among_none : a ≤ first → None ≡ row_for s r t
     among_none m = none_of (λ i k. before-first i (omega arith))
 
     -- row k is the last that has, and v is whether it covers the minute
     module _ (m : first < a) (k : ℕ) (ek : k + 1 ≡ a) (v : Bool)
-        (ev : v ≡ covers (cycle_of s) (row_at_byte s (16 + 17 * n.derived + 16 * k)).window t) where
+        (ev : v ≡ covers (cycle_of s) (row_of s k).window t) where
       last : covers_for s r t k ≡ v
       last =
           let e = eq-eqb (source_of s k) r (of-role k (omega arith) (omega (arith, w.ordered, w.to))) in
-          simp e (sym (ev ∙ ap (λ (z : Window). covers (cycle_of s) z t) (window-read s n o k _ refl)))
+          simp e (sym ev)
 
-      pub among-last : v ≡ true → k ≡ row_for s r t
+      pub among-last : v ≡ true → Some k ≡ row_for s r t
       among-last h = row-found s o.clear r t k (omega (arith, w.ordered, w.to, g.most)) (last ∙ h)
 
-      pub among-gone : v ≡ false → n.rows ≡ row_for s r t
+      pub among-gone : v ≡ false → None ≡ row_for s r t
       among-gone h =
           none_of
           (λ i j. ⊎_elim (λ (d : i < k). w.below i (omega arith)) (λ (d : k ≤ i). let e : k ≡ i = omega arith in rw (← e) (last ∙ h)) (lt-or-le i k))

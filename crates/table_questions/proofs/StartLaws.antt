@@ -1,15 +1,15 @@
 -- Where the rows of a role begin, by halving: rows go by source role.
---     begins-most                                                      no later than after the last row
---     Between, between-all, between-up, between-down, begins-there     the rows that are left to look at
---     first-none, first_more, below_next                               the roles so far
---     begins-end                                                       after the last role
+--     begins-most                                        no later than after the last row
+--     Between, between-all, between-up, between-down     the rows that are left to look at
+--     first_more, below_next                             the roles so far
+--     begins-end                                         after the last role
 -- Assumes nothing.
 use Prim.Native.Nat.{ℕ, ◌+◌, ◌≤◌, ◌<◌}
-use mathlib.Core.Path.{◌≡◌, refl, sym, ◌∙◌, ap, subst}
+use mathlib.Core.Path.{◌≡◌, sym, ◌∙◌, ap, subst}
 use mathlib.Core.Logic.{◌⊎◌, inl, inr}
 use mathlib.Core.List.{List}
 use native.Mathlib.Omega.{arith}
-use lib.ListN.{length, get_or, set, replicate, length-set}
+use lib.ListN.{length, get_or, set, length-set}
 use lib.Seq.{get_or-set_same, get_or-set_other}
 use Rattle.ground.proofs.BoolLaws.{lt-or-le}
 use Rattle.table.specs.Believed.TableBytes.{rows_of}
@@ -58,14 +58,7 @@ module _ (s : List ℕ) (n : Counts) (o : Opened s n) (r : ℕ) where
           above = λ i k p. omega (arith, sources-up s (table-fine s o.clear) m i k p);
         }
 
-pub begins-there : (s : List ℕ) (r a b : ℕ) → Between s r a b → b ≤ a → BeginsAt s r a
-begins-there s r a b w l =
-    record { most = omega (arith, w.ordered, w.most); below = w.below; above = λ i k m. w.above i (omega arith) m }
-
 -- ---- the roles so far
-pub first-none : (s : List ℕ) → FirstOf s 0 (replicate 32 0)
-first-none s = record { long = refl; begins = λ r l. absurd (omega arith) }
-
 module _ (s : List ℕ) (k : ℕ) (starts : List ℕ) (w : FirstOf s k starts) (l : k < 32) (v : ℕ) (b : BeginsAt s k v) where
   pub first_more : (starts' : List ℕ) → starts' ≡ set starts k v → FirstOf s (k + 1) starts'
   first_more starts' e =

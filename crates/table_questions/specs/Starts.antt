@@ -1,5 +1,5 @@
 -- Where the rows of each role begin, and what a row says of a minute: what the steps promise each other, which no reader has to believe.
-use Rattle.std.specs.Prelude.{ℕ, ◌≤◌, ◌<◌, ◌≡◌, Bool, false, ◌&&◌, ◌||◌, List, leb, length, get_or}
+use Rattle.std.specs.Prelude.{ℕ, ◌≤◌, ◌<◌, ◌≡◌, Bool, false, ◌&&◌, ◌||◌, List, Option, leb, length, get_or}
 use Rattle.minutes.specs.Believed.Minutes.{Window}
 use Rattle.table.specs.Believed.Table.{through}
 use Rattle.table.specs.Believed.TableBytes.{roles_of, rows_of, table_of}
@@ -33,6 +33,6 @@ Noted s n starts = few_rows n ≡ false → FirstRows s starts
 unfoldable pub has_begun : Window → ℕ → ℕ → Bool
 has_begun w t x = leb w.end t || (leb w.begin t && leb w.offset x)
 
--- v is whether a role answers at a minute: every role and minute whose row is row k
-abbrev pub Decides : List ℕ → ℕ → ℕ → ℕ → Bool → Type 0
-Decides s u p k v = (r t : ℕ) → k ≡ row_for s r t → v ≡ through (table_of s) u p t r
+-- v is whether a role answers at a minute: every role and minute whose row this is
+abbrev pub Decides : List ℕ → ℕ → ℕ → Option ℕ → Bool → Type 0
+Decides s u p row v = (r t : ℕ) → row ≡ row_for s r t → v ≡ through (table_of s) u p t r

@@ -2,90 +2,77 @@
 // over all rows, for many over the rows of each role, which are found once.
 #![tactic(auto)]
 
-ghost use Rattle.std.specs.Prelude.{◌≡◌, ◌+◌, ◌%◌, ◌≤◌, ◌<◌, length};
-ghost use Rattle.ground.specs.Believed.Outcome.{given};
-ghost use Rattle.policy.specs.Believed.Policy.{question, answer_given};
+ghost use Rattle.std.specs.Prelude.{◌≡◌, ◌+◌, ◌≤◌, ◌<◌, IfSome};
+ghost use Rattle.policy.specs.Believed.Policy.{question};
+ghost use Rattle.refusal.specs.Believed.Ends.{outcome_of};
 ghost use Rattle.table.specs.Believed.Table.{answer, policy_of};
-ghost use Rattle.table.specs.Believed.TableBytes.{cycle_of, row_at_byte, table_of};
+ghost use Rattle.table.specs.Believed.TableBytes.{row_of, table_of};
 ghost use Rattle.table.specs.Believed.TableRefusals.{table_judged};
-ghost use Rattle.table.specs.Inside.{Opened};
 ghost use Rattle.table_search.specs.Rows.{row_for};
 ghost use Rattle.table_questions.specs.Starts.{RowsBelow, BeginsAt, FirstRows, Noted, has_begun, Decides};
 
-use policy::Answer;
-use table::{Counts, TableAnswer};
+use refusal::Refusal;
+use table::{Moment, Table};
 
-// Whether row k is one and its entry has both bits set, which decides for the role whose row it is.
-fn row_decides(s: &[u8], n: Counts, k: usize, u: u32, p: u32) -> bool
-    requires { Opened s.now n × (u < n.users) × (p < n.permissions) }
-    ensures { Decides s.now u p k result }
+// Whether there is a row and its entry has both bits set, which decides for the role whose row it is.
+fn row_decides(table: &Table<'_>, row: Option<usize>, u: u32, p: u32) -> bool
+    requires { (u < table.now.counts.users) × (p < table.now.counts.permissions) × IfSome row (λ k. k < table.now.counts.rows) }
+    ensures { Decides table.now.bytes.now u p row result }
 {
-    if k < n.rows as usize {
-        table_answers::has_both(s, 16 + 17 * (n.derived as usize) + 16 * k, u, p)
-    } else {
-        false
+    match row {
+        Some(k) => table_answers::has_both(table, k, u, p),
+        None => false,
     }
 }
 
 // The answer of an accepted table by a search for each role, lowest first: the first role whose row covers the minute and has both bits set. Rows go
 // by role, so that each search begins where the last one ended.
-fn search_roles(s: &[u8], n: Counts, u: u32, p: u32, t: u32, x: u32) -> Answer
-    requires { Opened s.now n × (u < n.users) × (p < n.permissions) × (x ≡ t % cycle_of s.now) }
-    ensures { answer_given result ≡ given (answer (table_of s.now) u p t) }
+fn search_roles(moment: &Moment<'_>, u: u32, p: u32) -> Option<u8>
+    requires { (u < moment.now.table.counts.users) × (p < moment.now.table.counts.permissions) }
+    ensures { result ≡ answer (table_of moment.now.table.bytes.now) u p moment.now.minute }
 {
-    let roles = n.roles;
     let mut near = 0;
-    let mut r: u32 = 0;
-    while r < roles {
-        let f = table_search::row_at(s, n, r as usize, near, t, x);
-        let k = f.row;
+    for r in 0..moment.table.counts.roles as usize {
+        let f = table_search::row_at(moment, r, near);
+        let row = f.row;
         near = f.next;
-        if row_decides(s, n, k, u, p) {
-            return Answer::Yes(r as u8);
+        if row_decides(&moment.table, row, u, p) {
+            return Some(r as u8);
         }
-        r += 1;
     }
-    Answer::No
+    None
 }
 
 // The answer of an accepted table.
-pub fn answer_in(s: &[u8], n: Counts, u: u32, p: u32, t: u32) -> Answer
-    requires { Opened s.now n × (u < n.users) × (p < n.permissions) }
-    ensures { answer_given result ≡ given (answer (table_of s.now) u p t) }
+pub fn answer_in(table: &Table<'_>, u: u32, p: u32, t: u32) -> Option<u8>
+    requires { (u < table.now.counts.users) × (p < table.now.counts.permissions) }
+    ensures { result ≡ answer (table_of table.now.bytes.now) u p t }
 {
-    if table_search::few_rows(n) {
-        return table_answers::answer_in(s, n, u, p, t);
+    if table_search::few_rows(table.counts) {
+        return table_answers::answer_in(table, u, p, t);
     }
-    search_roles(s, n, u, p, t, minutes::phase(n.cycle, t))
+    search_roles(&table.at(t), u, p)
 }
 
 // One question: the table's refusal, 33, 34, 35, or the answer.
-pub fn question(s: &[u8], u: u32, p: u32, t: u32) -> Answer
-    ensures { answer_given result ≡ question (table_judged s.now) (policy_of (table_of s.now)) u p t }
+pub fn question(s: &[u8], u: u32, p: u32, t: u32) -> Result<Option<u8>, Refusal>
+    ensures { outcome_of result ≡ question (table_judged s.now) (policy_of (table_of s.now)) u p t }
 {
-    match table_reader::read(s) {
-        TableAnswer::Refused(code) => Answer::Refused(code),
-        TableAnswer::Accepted(n) => {
-            let bad = policy::judge_arguments(n.users, n.permissions, u, p, t);
-            if bad != 0 {
-                return Answer::Refused(bad);
-            }
-            answer_in(s, n, u, p, t)
-        }
-    }
+    let table = table_reader::open(s)?;
+    policy::judge_arguments(table.counts.users, table.counts.permissions, u, p, t)?;
+    Ok(answer_in(&table, u, p, t))
 }
 
 // Where the rows of a role begin, at `from` or after it, or the number of rows.
-fn first_row(s: &[u8], n: Counts, role: usize, from: usize) -> usize
-    requires { Opened s.now n × (from ≤ n.rows) × RowsBelow s.now role from }
-    ensures { BeginsAt s.now role result }
+fn first_row(table: &Table<'_>, role: usize, from: usize) -> usize
+    requires { (from ≤ table.now.counts.rows) × RowsBelow table.now.bytes.now role from }
+    ensures { BeginsAt table.now.bytes.now role result }
 {
-    let rows_at = 16 + 17 * (n.derived as usize);
     let mut a = from;
-    let mut b = n.rows as usize;
+    let mut b = table.rows();
     while a < b {
         let m = a + (b - a) / 2;
-        if table_row_times::row_role(s, rows_at + 16 * m) < role {
+        if (table.source(m) as usize) < role {
             a = m + 1;
         } else {
             b = m;
@@ -95,129 +82,113 @@ fn first_row(s: &[u8], n: Counts, role: usize, from: usize) -> usize
 }
 
 // For each role, where its rows begin. Rows go by role, so that each search begins where the last one ended.
-fn first_rows(s: &[u8], n: Counts) -> [u64; 32]
-    requires { Opened s.now n }
-    ensures { FirstRows s.now result }
+fn first_rows(table: &Table<'_>) -> [u64; 32]
+    ensures { FirstRows table.now.bytes.now result }
 {
-    let roles = n.roles as usize;
     let mut starts = [0u64; 32];
     let mut from = 0;
-    let mut k = 0;
-    while k < roles {
-        from = first_row(s, n, k, from);
+    for k in 0..table.counts.roles as usize {
+        from = first_row(table, k, from);
         starts[k] = from as u64;
-        k += 1;
     }
     starts
 }
 
 // What is found out once for many questions: where each role's rows begin, unless they are passed.
-pub fn note_starts(s: &[u8], n: Counts) -> [u64; 32]
-    requires { Opened s.now n }
-    ensures { Noted s.now n result }
+pub fn note_starts(table: &Table<'_>) -> [u64; 32]
+    ensures { Noted table.now.bytes.now table.now.counts result }
 {
-    if table_search::few_rows(n) {
+    if table_search::few_rows(table.counts) {
         return [0; 32];
     }
-    first_rows(s, n)
+    first_rows(table)
 }
 
-// Whether the row at `at` comes before minute t, whose phase is x, or covers it: its end is not after t, or it has begun and its cell starts at or
-// before the phase.
-fn begun(s: &[u8], at: usize, t: u32, x: u32) -> bool
-    requires { at + 16 ≤ length s.now }
-    ensures { result ≡ has_begun (row_at_byte s.now at).window t x }
+// Whether row i comes before the minute or covers it: its end is not after the minute, or it has begun and its cell starts at or before the phase.
+#[tactic(auto, unfolding(crate::specs::Starts::has_begun))]
+fn begun(moment: &Moment<'_>, i: usize) -> bool
+    requires { i < moment.now.table.counts.rows }
+    ensures { result ≡ has_begun (row_of moment.now.table.bytes.now i).window moment.now.minute moment.now.phase }
 {
-    let w = table::read_window(s, at);
-    if w.end <= t {
-        return true;
-    }
-    if w.begin <= t {
-        w.offset as u32 <= x
-    } else {
-        false
-    }
+    let w = moment.table.window(i);
+    w.end <= moment.minute || (w.begin <= moment.minute && w.offset as u32 <= moment.phase)
 }
 
-// Of the rows from `first` to before `past`, which are a role's, the one that covers minute t, whose phase is x, or the number of rows. It is the
-// last that has begun, or there is none.
-fn row_among(s: &[u8], n: Counts, role: usize, first: usize, past: usize, t: u32, x: u32) -> usize
-    requires { Opened s.now n × (x ≡ t % cycle_of s.now) × BeginsAt s.now role first × BeginsAt s.now (role + 1) past }
-    ensures { result ≡ row_for s.now role t }
+// Of the rows from `first` to before `past`, which are a role's, the one that covers the minute. It is the last that has begun, or there is none.
+fn row_among(moment: &Moment<'_>, role: usize, first: usize, past: usize) -> Option<usize>
+    requires { BeginsAt moment.now.table.bytes.now role first × BeginsAt moment.now.table.bytes.now (role + 1) past }
+    ensures { result ≡ row_for moment.now.table.bytes.now role moment.now.minute }
 {
-    let rows_at = 16 + 17 * (n.derived as usize);
-    let all = n.rows as usize;
     let mut a = first;
     let mut b = past;
     while a < b {
         let m = a + (b - a) / 2;
-        if begun(s, rows_at + 16 * m, t, x) {
+        if begun(moment, m) {
             a = m + 1;
         } else {
             b = m;
         }
     }
     if a <= first {
-        return all;
+        return None;
     }
     let k = a - 1;
-    let covered = table_answers::row_covers(s, rows_at + 16 * k, t, x);
-    if covered { k } else { all }
+    let covered = table_answers::row_covers(moment, k);
+    if covered { Some(k) } else { None }
 }
 
-// The row of a role that covers minute t, whose phase is x, or the number of rows, where each role's rows begin at `starts`. Those of the last role
-// go to the end.
-fn row_by(s: &[u8], n: Counts, starts: &[u64; 32], role: usize, t: u32, x: u32) -> usize
-    requires { Opened s.now n × FirstRows s.now starts.now × (x ≡ t % cycle_of s.now) × (role < n.roles) }
-    ensures { result ≡ row_for s.now role t }
+// The row of a role that covers the minute, where each role's rows begin at `starts`. Those of the last role go to the end.
+fn row_by(moment: &Moment<'_>, starts: &[u64; 32], role: usize) -> Option<usize>
+    requires { FirstRows moment.now.table.bytes.now starts.now × (role < moment.now.table.counts.roles) }
+    ensures { result ≡ row_for moment.now.table.bytes.now role moment.now.minute }
 {
     let first = starts[role] as usize;
     let next = role + 1;
-    let all = n.rows as usize;
-    let mut past = all;
-    if next < n.roles as usize {
-        past = starts[next] as usize;
-    }
-    row_among(s, n, role, first, past, t, x)
+    let past = if next < moment.table.counts.roles as usize {
+        starts[next] as usize
+    } else {
+        moment.table.rows()
+    };
+    row_among(moment, role, first, past)
 }
 
 // The answer of an accepted table by its roles, lowest first, where each role's rows begin at `starts`.
-fn search_starts(s: &[u8], n: Counts, starts: &[u64; 32], u: u32, p: u32, t: u32, x: u32) -> Answer
-    requires { Opened s.now n × (u < n.users) × (p < n.permissions) × FirstRows s.now starts.now × (x ≡ t % cycle_of s.now) }
-    ensures { answer_given result ≡ given (answer (table_of s.now) u p t) }
+fn search_starts(moment: &Moment<'_>, starts: &[u64; 32], u: u32, p: u32) -> Option<u8>
+    requires { (u < moment.now.table.counts.users) × (p < moment.now.table.counts.permissions) × FirstRows moment.now.table.bytes.now starts.now }
+    ensures { result ≡ answer (table_of moment.now.table.bytes.now) u p moment.now.minute }
 {
-    let roles = n.roles as usize;
-    let mut role = 0;
-    while role < roles {
-        let k = row_by(s, n, starts, role, t, x);
-        if row_decides(s, n, k, u, p) {
-            return Answer::Yes(role as u8);
+    for role in 0..moment.table.counts.roles as usize {
+        let row = row_by(moment, starts, role);
+        if row_decides(&moment.table, row, u, p) {
+            return Some(role as u8);
         }
-        role += 1;
     }
-    Answer::No
+    None
 }
 
 // The answer of an accepted table, where each role's rows begin at `starts`: quicker than a search without them, and worth finding them for some
 // questions to one table.
-pub fn answer_by(s: &[u8], n: Counts, starts: &[u64; 32], u: u32, p: u32, t: u32) -> Answer
-    requires { Opened s.now n × (u < n.users) × (p < n.permissions) × Noted s.now n starts.now }
-    ensures { answer_given result ≡ given (answer (table_of s.now) u p t) }
+pub fn answer_by(table: &Table<'_>, starts: &[u64; 32], u: u32, p: u32, t: u32) -> Option<u8>
+    requires { (u < table.now.counts.users) × (p < table.now.counts.permissions) × Noted table.now.bytes.now table.now.counts starts.now }
+    ensures { result ≡ answer (table_of table.now.bytes.now) u p t }
 {
-    if table_search::few_rows(n) {
-        return table_answers::answer_in(s, n, u, p, t);
+    if table_search::few_rows(table.counts) {
+        return table_answers::answer_in(table, u, p, t);
     }
-    search_starts(s, n, starts, u, p, t, minutes::phase(n.cycle, t))
+    search_starts(&table.at(t), starts, u, p)
 }
 
 // One question to an accepted table, where each role's rows begin at `starts`: 33, 34, 35, or the answer.
-pub fn question_by(s: &[u8], n: Counts, starts: &[u64; 32], u: u32, p: u32, t: u32) -> Answer
-    requires { Opened s.now n × Noted s.now n starts.now }
-    ensures { answer_given result ≡ question (table_judged s.now) (policy_of (table_of s.now)) u p t }
+pub fn question_by(
+    table: &Table<'_>,
+    starts: &[u64; 32],
+    u: u32,
+    p: u32,
+    t: u32,
+) -> Result<Option<u8>, Refusal>
+    requires { Noted table.now.bytes.now table.now.counts starts.now }
+    ensures { outcome_of result ≡ question (table_judged table.now.bytes.now) (policy_of (table_of table.now.bytes.now)) u p t }
 {
-    let bad = policy::judge_arguments(n.users, n.permissions, u, p, t);
-    if bad != 0 {
-        return Answer::Refused(bad);
-    }
-    answer_by(s, n, starts, u, p, t)
+    policy::judge_arguments(table.counts.users, table.counts.permissions, u, p, t)?;
+    Ok(answer_by(table, starts, u, p, t))
 }

@@ -1,4 +1,4 @@
--- The first minute from m on that a window covers, found without a search: of a window, and of the row at a position.
+-- The first minute from m on that a window covers, found without a search: of a window, and of a row.
 -- Assumes nothing.
 use Prim.Native.Nat.{ℕ, ◌+◌, ◌≤◌, ◌<◌, max}
 use mathlib.Core.Path.{◌≡◌}
@@ -13,8 +13,11 @@ use Rattle.minutes.specs.Believed.Minutes.{E, Window, covers}
 use Rattle.minutes.specs.First.{first_in}
 use Rattle.minutes.proofs.FirstLaws.{first-ge, first-left, first-right, first-le}
 use Rattle.minutes.proofs.WindowLaws.{In, covers-in, in-covers}
-use Rattle.table.specs.Believed.TableBytes.{cycle_of, row_at_byte}
-use Rattle.table_row_times.specs.RowFirst.{RowReady}
+use Rattle.table.specs.Believed.TableBytes.{cycle_of, derived_of, row_of}
+use Rattle.table.specs.Inside.{Opened}
+use Rattle.table.specs.declared.Counts.{Counts}
+use Rattle.table.proofs.HeaderLaws.{counts-are}
+use Rattle.table.proofs.FineLaws.{RowAlone, table-fine}
 
 -- x is the first minute, from m and the window's begin on, in the window's phase
 module _ (c : ℕ) (w : Window) (m x : ℕ) (some-length : 0 < w.length) (in-cycle : w.offset + w.length ≤ c) (ends : w.end ≤ E)
@@ -58,23 +61,32 @@ module _ (c : ℕ) (w : Window) (m x : ℕ) (some-length : 0 < w.length) (in-cyc
         before = λ v l b. not_yes _ (λ k. omega (arith, least v l k));
       })
 
--- the row at a position has window w, and a is the later of its begin and m
-module _ (s : List ℕ) (at : ℕ) (r : RowReady s at) (w : Window) (ew : w ≡ (row_at_byte s at).window) (c : ℕ) (ec : c ≡ cycle_of s) (m a : ℕ)
+-- row i of an accepted table has window w, and a is the later of its begin and m
+module _ (s : List ℕ) (n : Counts) (o : Opened s n) (i : ℕ) (l : i < n.rows) (w : Window) (ew : w ≡ (row_of s i).window) (m a : ℕ)
     (ea : a ≡ max w.begin m) where
-  window-fits : (0 < w.length) × (w.offset + w.length ≤ c) × (w.end ≤ E) × (w.begin < w.end)
-  window-fits = rw (ew, ec) (r.some-length, r.in-cycle, r.ends, r.ordered)
+  row-alone : RowAlone (derived_of s) (cycle_of s) (row_of s i)
+  row-alone = ((table-fine s o.clear).rows i (omega (arith, (counts-are s n o.counts).rows))).alone
 
-  pub in_reach : m ≤ E → (0 < c) × (c ≤ 40320) × (a ≤ E) × (w.offset ≤ c)
-  in_reach h = let f = window-fits in let k = r.cycle-most in (omega arith, omega arith, omega arith, omega arith)
+  cycle : n.cycle ≡ cycle_of s
+  cycle = (counts-are s n o.counts).cycle
+
+  window-fits : (0 < w.length) × (w.offset + w.length ≤ n.cycle) × (w.end ≤ E) × (w.begin < w.end)
+  window-fits = let f = row-alone in rw (ew, cycle) (f.some-length, f.in-cycle, f.ends, f.ordered)
+
+  pub in_reach : m ≤ E → (0 < n.cycle) × (n.cycle ≤ 40320) × (a ≤ E) × (w.offset ≤ n.cycle)
+  in_reach h =
+      let f = window-fits in
+      let k : n.cycle ≤ 40320 = omega (arith, cycle, (table-fine s o.clear).header.cycle-most) in
+      (omega arith, omega arith, omega arith, omega arith)
 
   -- x is the first minute from a on in its phase
-  module _ (x : ℕ) (ex : x ≡ first_in c a w.offset (w.offset + w.length)) where
-    pub covered-at : x < w.end → x ≡ first_from m E (covers (cycle_of s) (row_at_byte s at).window)
+  module _ (x : ℕ) (ex : x ≡ first_in n.cycle a w.offset (w.offset + w.length)) where
+    pub covered-at : x < w.end → x ≡ first_from m E (covers (cycle_of s) (row_of s i).window)
     covered-at h =
         let f = window-fits in
-        rw (← ec, ← ew) (before-end c w m x f.0 f.1 f.2 (rw ea at ex) h)
+        rw (← cycle, ← ew) (before-end n.cycle w m x f.0 f.1 f.2 (rw ea at ex) h)
 
-    pub covered-never : w.end ≤ x → E ≡ first_from m E (covers (cycle_of s) (row_at_byte s at).window)
+    pub covered-never : w.end ≤ x → E ≡ first_from m E (covers (cycle_of s) (row_of s i).window)
     covered-never h =
         let f = window-fits in
-        rw (← ec, ← ew) (past_end c w m x f.0 f.1 f.2 (rw ea at ex) h)
+        rw (← cycle, ← ew) (past_end n.cycle w m x f.0 f.1 f.2 (rw ea at ex) h)

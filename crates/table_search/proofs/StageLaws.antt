@@ -1,24 +1,25 @@
 -- The rows of an accepted table beside one whose stage is known: at most one row of a role covers a minute.
---     stage-lower, stage-higher, stage-early, stage-over, stage-off, stage-past, stage-on     a row's stage, by the tests of the code
---     source-read, window-read                                                                 a row, as it was read
+--     row-covers                                                                               a row that covers the minute, by the tests of the code
 --     Begun, none-begun, none_ahead                                                            rows before one that has begun, and from one ahead on
 --     Narrowed, narrow-none, narrow-up, narrow-down                                            the rows that are left to look at
 --     row-found, row-none, row-there                                                           the row, or that there is none
 -- Assumes nothing.
-use Prim.Native.Nat.{ℕ, ◌+◌, ◌-◌, ◌*◌, ◌%◌, ◌≤◌, ◌<◌}
-use mathlib.Core.Path.{◌≡◌, sym, ◌∙◌, ap, subst}
+use Prim.Native.Nat.{ℕ, ◌+◌, ◌-◌, ◌%◌, ◌≤◌, ◌<◌}
+use mathlib.Core.Path.{◌≡◌, sym, ◌∙◌, subst}
 use mathlib.Core.Logic.{◌⊎◌, inl, inr, ⊎_elim}
 use mathlib.Core.Bool.{true, false}
 use mathlib.Core.List.{List}
+use Rattle.std.proofs.Common.{None, Some}
+use Rattle.std.specs.declared.cmp.Ordering.TheVariants.{Less, Equal, Greater}
 use native.Mathlib.Nat.{eq-or-lt_of_le}
 use native.Mathlib.Omega.{arith}
 use borrow.Author.Tests.{eqb-true, eq-eqb}
 use lib.Dec.{eqb}
 use Rattle.ground.proofs.BoolLaws.{and_yes, and_both, lt-or-le, not_yes}
-use Rattle.ground.proofs.FromLaws.{first-is, is-first}
+use Rattle.ground.proofs.SearchLaws.{lowest-is, lowest-none, lowest-out}
 use Rattle.minutes.specs.Believed.Minutes.{Window, covers}
 use Rattle.minutes.proofs.WindowLaws.{In, covers-in, in-covers}
-use Rattle.table.specs.Believed.TableBytes.{cycle_of, rows_of, row_at_byte, row_of}
+use Rattle.table.specs.Believed.TableBytes.{cycle_of, rows_of, row_of}
 use Rattle.table.specs.Believed.TableRefusals.{source_of, table_judged}
 use Rattle.table.specs.Inside.{Opened, window_given}
 use Rattle.table.specs.declared.Counts.{Counts}
@@ -27,8 +28,7 @@ use Rattle.table.proofs.HeaderLaws.{counts-are}
 use Rattle.table.proofs.FineLaws.{table-fine}
 use Rattle.table_reader.proofs.FollowsLaws.{After}
 use Rattle.table_reader.proofs.TableTheorems.{in_order, one-row}
-use Rattle.table_row_times.specs.RowFirst.{role_at_byte}
-use Rattle.table_search.specs.Rows.{covers_for, row_for, Behind, Ahead, StageIs}
+use Rattle.table_search.specs.Rows.{covers_for, row_for, Behind, Ahead, Stands}
 
 -- a window of a role below r, or of role r and begun at minute t, whose phase is x: it has ended, or its dates and its cell have started
 abbrev pub Begun : ℕ → Window → ℕ → ℕ → ℕ → Type 0
@@ -120,28 +120,24 @@ module _ (s : List ℕ) (a : table_judged s ≡ 0) (r t : ℕ) where
       (λ (d : m < i). not_after (cycle_of s) t r (source_of s m) (W m) (source_of s i) (W i) (in_order s a m i d l) ((table-fine s a).rows m (omega arith)).alone.ordered z.0 z.1 b)
       (eq-or-lt_of_le k))
 
-  pub row-found : (m : ℕ) → m < rows_of s → covers_for s r t m ≡ true → m ≡ row_for s r t
+  pub row-found : (m : ℕ) → m < rows_of s → covers_for s r t m ≡ true → Some m ≡ row_for s r t
   unfolding row_for
   row-found m l h =
-      is-first 0 (rows_of s) (covers_for s r t) m
-      (record {
-        most = omega arith;
-        from = λ k. omega arith;
-        passes = λ k. h;
-        before = λ v k b.
-            not_yes _
-            (λ g.
-            let y = parts v g in
-            let z = parts m h in
-            omega (arith, one-row s a v m t (omega arith) l (y.0 ∙ sym z.0) (in-covers y.1) (in-covers z.1)));
-      })
+      sym (lowest-is (covers_for s r t) (rows_of s) m l h
+      (λ v b. not_yes _
+      (λ g.
+      let y = parts v g in
+      let z = parts m h in
+      omega (arith, one-row s a v m t (omega arith) l (y.0 ∙ sym z.0) (in-covers y.1) (in-covers z.1)))))
 
 -- where there is one, it is of the role and covers the minute
-pub row-there : (s : List ℕ) (r t k : ℕ) → k ≡ row_for s r t → k < rows_of s → (source_of s k ≡ r) × (covers (cycle_of s) (row_of s k).window t ≡ true)
+pub row-there : (s : List ℕ) (r t k : ℕ) → row_for s r t ≡ Some k
+    → (k < rows_of s) × (source_of s k ≡ r) × (covers (cycle_of s) (row_of s k).window t ≡ true)
 unfolding row_for
-row-there s r t k e l =
-    let z = and_yes (eqb (source_of s k) r) (covers (cycle_of s) (row_of s k).window t) ((first-is 0 (rows_of s) (covers_for s r t) k e).passes l) in
-    (eqb-true (source_of s k) r z.0, z.1)
+row-there s r t k e =
+    let y = lowest-out (covers_for s r t) (rows_of s) k e in
+    let z = and_yes (eqb (source_of s k) r) (covers (cycle_of s) (row_of s k).window t) y.1 in
+    (y.0, eqb-true (source_of s k) r z.0, z.1)
 
 -- rows a to before b are left to look at
 pub record Narrowed (s : List ℕ) (r t a b : ℕ) : Type 0 where
@@ -161,104 +157,38 @@ module _ (s : List ℕ) (n : Counts) (o : Opened s n) (r t : ℕ) where
         above = λ i l m. absurd (omega arith);
       }
 
-  module _ (a b m k : ℕ) (w : Narrowed s r t a b) (l : m < b) (g : StageIs s r t m k) where
-    pub narrow-up : k ≡ 0 → (next : ℕ) → next ≡ m + 1 → Narrowed s r t next b
-    narrow-up e next en =
+  -- row m stands before the one that is looked for, at it or after it
+  module _ (a b m : ℕ) (w : Narrowed s r t a b) (l : m < b) where
+    pub narrow-up : Stands s r t m Less → (next : ℕ) → next ≡ m + 1 → Narrowed s r t next b
+    narrow-up g next en =
         record {
           ordered = omega arith;
           most = w.most;
-          below = λ i q. none-behind s o.clear r t m (omega (arith, w.most)) (g.behind e) i (omega arith);
+          below = λ i q. none-behind s o.clear r t m (omega (arith, w.most)) g i (omega arith);
           above = w.above;
         }
 
-    pub narrow-down : a ≤ m → 1 < k → Narrowed s r t a m
-    narrow-down d e =
+    pub narrow-down : a ≤ m → Stands s r t m Greater → Narrowed s r t a m
+    narrow-down d g =
         record {
           ordered = d;
           most = omega (arith, w.most);
           below = w.below;
-          above = λ i q p. none_ahead s o.clear r t m (g.ahead e) i q p;
+          above = λ i q p. none_ahead s o.clear r t m g i q p;
         }
 
-    pub row-at-stage : k ≡ 1 → m ≡ row_for s r t
-    row-at-stage e = row-found s o.clear r t m (omega (arith, w.most)) (g.covering e)
+    pub row-here : Stands s r t m Equal → Some m ≡ row_for s r t
+    row-here g = row-found s o.clear r t m (omega (arith, w.most)) g
 
-  pub row-none : (a b : ℕ) → Narrowed s r t a b → b ≤ a → n.rows ≡ row_for s r t
+  pub row-none : (a b : ℕ) → Narrowed s r t a b → b ≤ a → None ≡ row_for s r t
   unfolding row_for
   row-none a b w l =
-      let e = (counts-are s n o.counts).rows in
-      is-first 0 (rows_of s) (covers_for s r t) n.rows
-      (record {
-        most = omega arith;
-        from = λ k. omega arith;
-        passes = λ k. absurd (omega arith);
-        before = λ v k q. ⊎_elim (λ (d : v < a). w.below v d) (λ (d : a ≤ v). w.above v (omega arith) (omega arith)) (lt-or-le v a);
-      })
+      sym (lowest-none (covers_for s r t) (rows_of s)
+      (λ v q. ⊎_elim (λ (d : v < a). w.below v d) (λ (d : a ≤ v). w.above v (omega arith) q) (lt-or-le v a)))
 
--- ---- the tests of the code
--- the source and the window of row i, as they were read
-module _ (s : List ℕ) (n : Counts) (o : Opened s n) (i : ℕ) where
-  pub source-read : (q : ℕ) → q ≡ role_at_byte s (16 + 17 * n.derived + 16 * i) → q ≡ source_of s i
-  unfolding row_of
-  source-read q e = e ∙ ap (λ (d : ℕ). role_at_byte s (16 + 17 * d + 16 * i)) (counts-are s n o.counts).derived
-
-  pub window-read : (w : Window) → w ≡ (row_at_byte s (16 + 17 * n.derived + 16 * i)).window → w ≡ (row_of s i).window
-  unfolding row_of
-  window-read w e = e ∙ ap (λ (d : ℕ). (row_at_byte s (16 + 17 * d + 16 * i)).window) (counts-are s n o.counts).derived
-
-module _ (s : List ℕ) (r t i : ℕ) (q : ℕ) (eq : q ≡ source_of s i) where
-  abbrev Here : Window
-  Here = (row_of s i).window
-
-  is-behind : Behind (source_of s i) Here r t (t % cycle_of s) → StageIs s r t i 0
-  is-behind h = record { behind = λ e. h; covering = λ e. absurd (omega arith); ahead = λ e. absurd (omega arith) }
-
-  is-ahead : Ahead (source_of s i) Here r t (t % cycle_of s) → StageIs s r t i 2
-  is-ahead h = record { behind = λ e. absurd (omega arith); covering = λ e. absurd (omega arith); ahead = λ e. h }
-
-  pub stage-lower : q < r → StageIs s r t i 0
-  stage-lower l = is-behind (inl (omega arith))
-
-  pub stage-higher : r < q → StageIs s r t i 2
-  stage-higher l = is-ahead (inl (omega arith))
-
-  module _ (l : r ≤ q) (m : q ≤ r) (w : declared.Window) (ew : window_given w ≡ Here) where
-    same : source_of s i ≡ r
-    same = omega arith
-
-    begin-is : w.begin ≡ Here.begin
-    begin-is = ap (λ (z : Window). z.begin) ew
-
-    end_is : w.end ≡ Here.end
-    end_is = ap (λ (z : Window). z.end) ew
-
-    offset-is : w.offset ≡ Here.offset
-    offset-is = ap (λ (z : Window). z.offset) ew
-
-    length-is : w.length ≡ Here.length
-    length-is = ap (λ (z : Window). z.length) ew
-
-    pub stage-early : t < w.begin → StageIs s r t i 2
-    stage-early h = is-ahead (inr (same, inl (omega (arith, begin-is))))
-
-    module _ (b : w.begin ≤ t) where
-      pub stage-over : w.end ≤ t → StageIs s r t i 0
-      stage-over h = is-behind (inr (same, omega (arith, begin-is), inl (omega (arith, end_is))))
-
-      module _ (d : t < w.end) (x : ℕ) (ex : x ≡ t % cycle_of s) where
-        pub stage-off : x < w.offset → StageIs s r t i 2
-        stage-off h = is-ahead (inr (same, inr (omega (arith, end_is), omega (arith, offset-is))))
-
-        module _ (o : w.offset ≤ x) where
-          pub stage-past : w.length ≤ x - w.offset → StageIs s r t i 0
-          stage-past h = is-behind (inr (same, omega (arith, begin-is), inr (omega (arith, offset-is, length-is))))
-
-          pub stage-on : x - w.offset < w.length → StageIs s r t i 1
-          stage-on h =
-              record {
-                behind = λ e. absurd (omega arith);
-                covering = λ e.
-                    and_both _ _ (eq-eqb (source_of s i) r same)
-                    (in-covers (record { from = omega (arith, begin-is); to = omega (arith, end_is); left = omega (arith, offset-is); right = omega (arith, offset-is, length-is) }));
-                ahead = λ e. absurd (omega arith);
-              }
+-- row i is of role r and has window w, which covers minute t, whose phase is x
+pub row-covers : (s : List ℕ) (r t i : ℕ) (w : declared.Window) → window_given w ≡ (row_of s i).window → source_of s i ≡ r → w.begin ≤ t → t < w.end
+    → (x : ℕ) → x ≡ t % cycle_of s → w.offset ≤ x → x - w.offset < w.length → covers_for s r t i ≡ true
+row-covers s r t i w ew e b d x ex o l =
+    and_both _ _ (eq-eqb (source_of s i) r e)
+    (rw (← ew) (in-covers (record { from = b; to = d; left = omega (arith, ex); right = omega (arith, ex) })))

@@ -4,10 +4,10 @@
 ghost use Rattle.std.specs.Prelude.{◌≡◌, ◌+◌, ◌≤◌, ◌<◌, length};
 ghost use Rattle.std.proofs.lemmas.List.Edits.{sets};
 ghost use Rattle.table.specs.Believed.TableBytes.{header_bytes, entry_bytes, row_bytes};
-ghost use Rattle.table.specs.Inside.{window_made, entry_made, row_made};
+ghost use Rattle.table.specs.Inside.{window_given, entry_made, row_made};
 ghost use Rattle.table_writer.specs.Limits.{limits_bytes};
 
-use table::Counts;
+use table::{Counts, Window};
 
 // The writers store a part of a table and keep every other byte. First what the header has before its two counts.
 fn write_limits(d: &mut [u8], counts: Counts)
@@ -39,21 +39,13 @@ pub fn write_entry(d: &mut [u8], at: usize, source: u8, users: u64, permissions:
     endian::write64(d, at + 9, permissions);
 }
 
-pub fn write_row(
-    d: &mut [u8],
-    at: usize,
-    derived: u32,
-    begin: u32,
-    end: u32,
-    offset: u16,
-    span: u16,
-)
+pub fn write_row(d: &mut [u8], at: usize, derived: u32, w: Window)
     requires { at + 16 ≤ length d.old }
-    ensures { d.new ≡ sets d.old at (row_bytes (row_made derived (window_made begin end offset span))) }
+    ensures { d.new ≡ sets d.old at (row_bytes (row_made derived (window_given w))) }
 {
     endian::write32(d, at, derived);
-    endian::write32(d, at + 4, begin);
-    endian::write32(d, at + 8, end);
-    endian::write16(d, at + 12, offset);
-    endian::write16(d, at + 14, span);
+    endian::write32(d, at + 4, w.begin);
+    endian::write32(d, at + 8, w.end);
+    endian::write16(d, at + 12, w.offset);
+    endian::write16(d, at + 14, w.length);
 }

@@ -1,3 +1,2 @@
-pub mod InsertLaws
 pub mod KeyRowLaws
-pub mod PutLaws
+pub mod KeyLaws

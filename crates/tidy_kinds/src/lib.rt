@@ -1,12 +1,13 @@
-// The rows of one kind of an accepted rota in order, each once: copied where they are so already, put in place one by one where they are few, else
-// gathered into sets.
+// The rows of one kind of an accepted rota in order, each once: copied where they are so already, sorted where they are few, else gathered
+// into sets.
 #![tactic(auto)]
 
 ghost use Rattle.std.specs.Prelude.{◌≡◌, ◌+◌, ◌*◌, ◌≤◌, length};
 ghost use Rattle.std.proofs.lemmas.List.Edits.{sets as stores};
 ghost use Rattle.tidy_rules.specs.Inside.{KindFine, kind_rows, kind_bytes};
 
-// Writes the n rows from `at` on in order, each once, from `to` on. Gives where they end.
+// Writes the n rows from `at` on in order, each once, from `to` on. Gives where they end. (By slices and places, not structs of them: docs/CLAIMS.md names this
+// contract.)
 pub fn put_kind(out: &mut [u8], to: usize, s: &[u8], at: usize, n: usize) -> usize
     requires { KindFine s.now at n × (to + 3 * length (kind_rows s.now at n) ≤ length out.old) }
     ensures { (out.new ≡ stores out.old to (kind_bytes s.now at n)) × (result ≡ to + 3 * length (kind_rows s.now at n)) }

@@ -3,19 +3,13 @@
 
 ghost use Rattle.std.specs.Prelude.{◌≡◌, ◌≤◌, ltb, length};
 ghost use Rattle.std.proofs.lemmas.List.Edits.{sets as stores};
-ghost use Rattle.rota.specs.Inside.{Located};
+ghost use Rattle.endian.specs.Believed.Numbers.{Bytes};
+ghost use Rattle.refusal.specs.Believed.Ends.{outcome_of};
 ghost use Rattle.tidy_rules.specs.Believed.Tidy.{tidy_bytes, tidy_outcome, area_tidied};
 ghost use Rattle.tidy_rota.specs.Parts.{head_bytes};
-ghost use Rattle.tidy_rota.specs.Answers.{tidied_given};
 
-use rota::{Layout, LayoutAnswer};
-
-// A tidy rota is written, and so long, or refused.
-#[derive(Clone, Copy)]
-pub enum Tidied {
-    Wrote(usize),
-    Refused(u8),
-}
+use refusal::Refusal;
+use rota::accepted::{Rota, open};
 
 // The header with counts of rows of its own: format 3, and what else the rota's header has.
 fn put_header(out: &mut [u8], s: &[u8], user_rows: u16, permission_rows: u16)
@@ -29,36 +23,44 @@ fn put_header(out: &mut [u8], s: &[u8], user_rows: u16, permission_rows: u16)
 }
 
 // How long the tidy rota is. A rota of format 3 is tidy already.
-fn tidy_length(s: &[u8], l: Layout) -> usize
-    requires { Located s.now l }
-    ensures { result ≡ length (tidy_bytes s.now) }
+fn tidy_length(rota: &Rota) -> usize
+    requires { Bytes rota.now.bytes.now }
+    ensures { result ≡ length (tidy_bytes rota.now.bytes.now) }
 {
-    let n = l.counts;
-    let format = n.format;
+    let s = rota.bytes;
+    let l = rota.layout;
+    let format = l.counts.format;
     if format == 3 {
         return s.len();
     }
-    let users = tidy_kinds::count_kind(s, l.user_rows_at, n.user_rows as usize);
-    let permissions = tidy_kinds::count_kind(s, l.permission_rows_at, n.permission_rows as usize);
+    let users = tidy_kinds::count_kind(s, l.user_rows_at, l.counts.user_rows as usize);
+    let permissions = tidy_kinds::count_kind(
+        s,
+        l.permission_rows_at,
+        l.counts.permission_rows as usize,
+    );
     l.user_rows_at + 3 * users + 3 * permissions
 }
 
 // Whether the tidy rota is longer than so much room. It is no longer than the rota, so there is nothing to count where that has room.
-fn exceeds(s: &[u8], l: Layout, room: usize) -> bool
-    requires { Located s.now l }
-    ensures { result ≡ ltb room (length (tidy_bytes s.now)) }
+fn exceeds(rota: &Rota, room: usize) -> bool
+    requires { Bytes rota.now.bytes.now }
+    ensures { result ≡ ltb room (length (tidy_bytes rota.now.bytes.now)) }
 {
-    if s.len() <= room {
+    if rota.bytes.len() <= room {
         return false;
     }
-    room < tidy_length(s, l)
+    room < tidy_length(rota)
 }
 
 // Writes the tidy rota, which has room: how long it is. The counts of its rows are known once they are written.
-fn put_tidy(s: &[u8], l: Layout, out: &mut [u8]) -> usize
-    requires { Located s.now l × (length (tidy_bytes s.now) ≤ length out.old) }
-    ensures { (out.new ≡ stores out.old 0 (tidy_bytes s.now)) × (result ≡ length (tidy_bytes s.now)) }
+fn put_tidy(rota: &Rota, out: &mut [u8]) -> usize
+    requires { Bytes rota.now.bytes.now × (length (tidy_bytes rota.now.bytes.now) ≤ length out.old) }
+    ensures { (out.new ≡ stores out.old 0 (tidy_bytes rota.now.bytes.now))
+        × (result ≡ length (tidy_bytes rota.now.bytes.now)) }
 {
+    let s = rota.bytes;
+    let l = rota.layout;
     let n = l.counts;
     if n.format == 3 {
         tidy_copy::copy(out, 0, s, 0, s.len());
@@ -85,16 +87,12 @@ fn put_tidy(s: &[u8], l: Layout, out: &mut [u8]) -> usize
 
 // Tidies a rota into an area: 1 to 12 and 52 as it is read, then 20 exactly where the tidy rota is longer than the area, which then stays as it came;
 // else the tidy rota at its start, and its length.
-pub fn tidy(s: &[u8], out: &mut [u8]) -> Tidied
-    ensures { (tidied_given result ≡ tidy_outcome s.now (length out.old)) × (out.new ≡ area_tidied s.now out.old) }
+pub fn tidy(s: &[u8], out: &mut [u8]) -> Result<usize, Refusal>
+    ensures { (outcome_of result ≡ tidy_outcome s.now (length out.old)) × (out.new ≡ area_tidied s.now out.old) }
 {
-    match rota::locate(s) {
-        LayoutAnswer::Refused(code) => Tidied::Refused(code),
-        LayoutAnswer::Accepted(l) => {
-            if exceeds(s, l, out.len()) {
-                return Tidied::Refused(20);
-            }
-            Tidied::Wrote(put_tidy(s, l, out))
-        }
+    let rota = open(s)?;
+    if exceeds(&rota, out.len()) {
+        return Err(Refusal::AreaTooSmall);
     }
+    Ok(put_tidy(&rota, out))
 }

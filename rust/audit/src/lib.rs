@@ -21,6 +21,7 @@ pub use contracts::UNSTATED;
 pub use libraries::{axioms, dependencies, proofs};
 use repository::Sources;
 pub use repository::{CRATES, EDITS, Repository, STATEMENTS};
+use source::Source;
 
 /// All that is amiss with the sources.
 pub fn sources(repository: &Repository) -> Vec<String> {
@@ -51,9 +52,12 @@ pub fn pages(repository: &Repository) -> Vec<(&'static str, String)> {
     vec![(STATEMENTS, statements), (EDITS, edits::page(repository).0)]
 }
 
-/// How many functions the audit reads in each crate.
+/// How many functions each crate has: those with a body, and those that stand there unwritten.
 pub fn functions(repository: &Repository) -> BTreeMap<String, usize> {
     let (sources, _) = Sources::read(repository);
-    let count = |name: &str| sources.of_crate(name).map(|(_, s)| s.functions.len()).sum();
+    let read = |source: &Source| {
+        source.functions.iter().filter(|function| function.has_body).count() + source.derived
+    };
+    let count = |name: &str| sources.of_crate(name).map(|(_, source)| read(source)).sum();
     repository.crates().iter().map(|(name, _)| (name.to_string(), count(name))).collect()
 }

@@ -11,11 +11,22 @@ pub struct Function {
     pub line: usize,
     pub exported: bool,
     pub has_body: bool,
+    pub place: Place,
     pub parameters: Vec<String>,
     pub requires: usize,
     pub ensures: usize,
     /// From its attributes to before its body: what it takes, gives and promises.
     pub head: Range<usize>,
+}
+
+/// Where a function stands: by itself, as a trait declares it, in an impl of a trait, or there where
+/// the trait in the same file or the ghost member `NAME_gives` says what it promises.
+#[derive(Clone, Copy, Debug, PartialEq)]
+pub enum Place {
+    Own,
+    Declared,
+    OfTrait,
+    Promised,
 }
 
 /// A struct, an enum, a constant or another name for a type.
@@ -34,6 +45,12 @@ pub struct Source<'a> {
     pub uses: Vec<Vec<&'a str>>,
     pub functions: Vec<Function>,
     pub items: Vec<Item>,
+    /// How many functions stand there without being written: one for each derive of `Default`, and the
+    /// `size_hint` of each `impl Iterator`.
+    pub derived: usize,
+    /// The traits of the file, and the ghost members of its traits and impls.
+    traits: Vec<&'a str>,
+    ghosts: Vec<&'a str>,
 }
 
 impl<'a> Source<'a> {
@@ -46,8 +63,11 @@ impl<'a> Source<'a> {
             uses: Vec::new(),
             functions: Vec::new(),
             items: Vec::new(),
+            derived: 0,
+            traits: Vec::new(),
+            ghosts: Vec::new(),
         };
-        source.block(0..source.tokens.len())?;
+        source.block(0..source.tokens.len(), Place::Own)?;
         Ok(source)
     }
 
@@ -83,16 +103,16 @@ impl<'a> Source<'a> {
         Err(format!("line {line}: an item that is not read"))
     }
 
-    fn block(&mut self, range: Range<usize>) -> Result<(), String> {
+    fn block(&mut self, range: Range<usize>, place: Place) -> Result<(), String> {
         let mut at = range.start;
         while at < range.end {
-            at = self.item(at)?;
+            at = self.item(at, place)?;
         }
         Ok(())
     }
 
     /// Reads the item at `at`, and gives the place after it.
-    fn item(&mut self, start: usize) -> Result<usize, String> {
+    fn item(&mut self, start: usize, place: Place) -> Result<usize, String> {
         let mut at = start;
         let mut exported = false;
         loop {
@@ -101,6 +121,9 @@ impl<'a> Source<'a> {
                 "#" => {
                     let end = self.closed(at + 1)?;
                     exported |= (at..end).any(|at| self.word(at) == "no_mangle");
+                    let derives = self.word(at + 2) == "derive";
+                    let named = (at..end).filter(|at| self.word(*at) == "Default").count();
+                    self.derived += if derives { named } else { 0 };
                     at = end;
                 }
                 "pub" if self.word(at + 1) == "(" => at = self.closed(at + 1)?,
@@ -113,7 +136,7 @@ impl<'a> Source<'a> {
             }
         }
         match self.word(at) {
-            "fn" => self.function(start, at, exported),
+            "fn" => self.function(start, at, exported, place),
             "ghost" if self.word(at + 1) == "use" => {
                 let end = self.find(at, &[";"])?;
                 let found = imports(&self.tokens[at + 2..end])?;
@@ -127,11 +150,36 @@ impl<'a> Source<'a> {
                 self.used(&[], &words);
                 Ok(end + 1)
             }
+            // A ghost member of a trait or of an impl of one.
+            "ghost" if place != Place::Own => {
+                self.ghosts.push(self.word(at + 1));
+                Ok(self.find(at, &[";"])? + 1)
+            }
             "mod" if self.word(at + 2) == ";" => Ok(at + 3),
-            "impl" | "mod" | "{" => {
+            "impl" | "trait" | "mod" | "{" => {
                 let open = self.find(at, &["{"])?;
                 let end = self.closed(open)?;
-                self.block(open + 1..end - 1)?;
+                let of_trait = (at..open).find(|at| self.word(*at) == "for");
+                let of_trait = of_trait.filter(|_| self.word(at) == "impl");
+                let inside = match self.word(at) {
+                    "trait" => Place::Declared,
+                    _ if of_trait.is_some() => Place::OfTrait,
+                    _ => Place::Own,
+                };
+                if inside == Place::Declared {
+                    self.traits.push(self.word(at + 1));
+                }
+                self.derived += usize::from(of_trait.is_some() && self.word(at + 1) == "Iterator");
+                let (functions, ghosts) = (self.functions.len(), self.ghosts.len());
+                self.block(open + 1..end - 1, inside)?;
+                let here = of_trait.is_some_and(|at| self.traits.contains(&self.word(at - 1)));
+                let said = &self.ghosts[ghosts..];
+                for function in &mut self.functions[functions..] {
+                    let gives = format!("{}_gives", function.name);
+                    if of_trait.is_some() && (here || said.contains(&gives.as_str())) {
+                        function.place = Place::Promised;
+                    }
+                }
                 Ok(end)
             }
             "struct" | "enum" | "const" | "type" => {
@@ -163,7 +211,13 @@ impl<'a> Source<'a> {
         }
     }
 
-    fn function(&mut self, start: usize, at: usize, exported: bool) -> Result<usize, String> {
+    fn function(
+        &mut self,
+        start: usize,
+        at: usize,
+        exported: bool,
+        place: Place,
+    ) -> Result<usize, String> {
         let open = self.find(at, &["("])?;
         let close = self.closed(open)?;
         let parameters = (open + 1..close)
@@ -188,6 +242,7 @@ impl<'a> Source<'a> {
             line: self.tokens[at].line,
             exported,
             has_body,
+            place,
             parameters,
             requires,
             ensures,

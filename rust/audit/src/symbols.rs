@@ -48,9 +48,9 @@ const LENT: [&str; 15] = [
 ];
 
 /// Constructors: a pattern that has one is no new name.
-const CONSTRUCTORS: [&str; 16] = [
+const CONSTRUCTORS: [&str; 19] = [
     "true", "false", "zero", "suc", "[]", "∷", "some", "none", "tt", "yes", "no", "refl", "Some",
-    "None", "Ok", "Err",
+    "None", "Ok", "Err", "Less", "Equal", "Greater",
 ];
 
 /// What .ci/symbols lists openly: names with several homes, and other names for names of the kit.

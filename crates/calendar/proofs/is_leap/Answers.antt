@@ -1,7 +1,5 @@
--- Assumes nothing.
-use Prim.Native.Nat.{◌%◌}
-use native.Mathlib.Omega.{arith}
-use borrow.Author.Tests.{eq-eqb, ne_eqb}
+use Rattle.std.proofs.Common.{◌%◌, arith, eq-eqb}
+use borrow.Author.Tests.{ne_eqb}
 use Rattle.calendar.specs.Believed.Calendar.{leap}
 use Rattle.calendar.proofs.is_leap.Goals as goal
 
@@ -9,14 +7,14 @@ use Rattle.calendar.proofs.is_leap.Goals as goal
 
 pub returns-then-year-ne0 : goal.returns-then-year-ne0
 unfolding leap
-returns-then-year-ne0 c =
+returns-then-year-ne0 c = simp (eq-eqb _ _ c.if-year-eq0.true, ne_eqb _ _ c.if-year-ne0.true)
+
+pub returns-else-year-ne0 : goal.returns-else-year-ne0
+unfolding leap
+returns-else-year-ne0 c = simp (eq-eqb _ _ c.if-year-eq0.true, eq-eqb _ _ c.if-year-ne0.false)
+
+pub returns-else-year-eq0 : goal.returns-else-year-eq0
+unfolding leap
+returns-else-year-eq0 c =
     let y = c.args.year in
-    simp (ne_eqb (y % 4) 0 c.if-year-ne0.true, ne_eqb (y % 400) 0 (omega arith))
-
-pub returns-then-year-ne0-2 : goal.returns-then-year-ne0-2
-unfolding leap
-returns-then-year-ne0-2 c = simp (eq-eqb _ _ c.if-year-ne0.false, ne_eqb _ _ c.if-year-ne0-2.true)
-
-pub returns : goal.returns
-unfolding leap
-returns c = simp (eq-eqb _ _ c.if-year-ne0.false, eq-eqb _ _ c.if-year-ne0-2.false)
+    simp (ne_eqb (y % 4) 0 c.if-year-eq0.false, ne_eqb (y % 400) 0 (omega arith))

@@ -2,14 +2,10 @@
 use Rattle.std.specs.Prelude.{ℕ, zero, suc, ◌+◌, ◌-◌, ◌*◌, ◌/◌, ◌%◌, Bool, not, ◌&&◌, ◌||◌, [], ◌∷◌, leb, ltb, eqb, get_or}
 use Rattle.ground.specs.Believed.Choice.{pick}
 use Rattle.ground.specs.Believed.Judgement.{refuse}
-use Rattle.ground.specs.Believed.Outcome.{Outcome, refused, given, outcome}
+use Rattle.ground.specs.Believed.Outcome.{Outcome, outcome}
 use Rattle.ground.specs.Believed.Search.{highest_below}
 use Rattle.minutes.specs.Believed.Minutes.{E}
 use Rattle.calendar.specs.declared.Date.{Date}
-use Rattle.calendar.specs.declared.DateAnswer.{DateAnswer}
-use Rattle.calendar.specs.declared.DateAnswer.TheVariants as date
-use Rattle.calendar.specs.declared.MinuteAnswer.{MinuteAnswer}
-use Rattle.calendar.specs.declared.MinuteAnswer.TheVariants as minute
 
 -- the rule of the Gregorian leap years
 unfoldable pub leap : ℕ → Bool
@@ -72,12 +68,3 @@ date_at t =
 
 unfoldable pub date_of : ℕ → Outcome Date
 date_of t = outcome (refuse 33 (leb E t)) (date_at t)
-
--- what each case of the two answers stands for
-abbrev pub date_given : DateAnswer → Outcome Date
-date_given (date.On d) = given d
-date_given (date.Refused n) = refused n
-
-abbrev pub minute_given : MinuteAnswer → Outcome ℕ
-minute_given (minute.At t) = given t
-minute_given (minute.Refused n) = refused n

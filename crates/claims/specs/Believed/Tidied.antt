@@ -1,7 +1,6 @@
 -- What document 02, item 7, asks of a tidy rota, as one claim over a rota's bytes. `tidied` of
 -- proofs/TidiedTheorems.antt proves it wherever they are accepted.
-use Rattle.std.specs.Prelude.{ℕ, ◌≡◌, ◌↔◌, List}
-use Rattle.std.proofs.Math.Option.{Option}
+use Rattle.std.specs.Prelude.{ℕ, ◌≡◌, ◌↔◌, List, Option}
 use Rattle.ground.specs.Believed.Outcome.{Outcome}
 use Rattle.endian.specs.Believed.Numbers.{Bytes}
 use Rattle.policy.specs.Believed.Policy.{question}

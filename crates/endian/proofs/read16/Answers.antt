@@ -1,21 +1,7 @@
+use Rattle.std.proofs.Common.{arith}
 use Rattle.endian.specs.Believed.Numbers.{u16_at}
-use Prim.Native.Nat.{◌+◌}
-use native.Mathlib.Omega.{arith}
-use borrow.Author.Rules.{rules}
 use Rattle.endian.proofs.read16.Goals as goal
-
-pub overflow_cast-result : goal.overflow_cast-result
-overflow_cast-result c = omega (arith, c.shared_slice_known-1.given c.args.at)
-
-pub overflow_cast-result-2 : goal.overflow_cast-result-2
-overflow_cast-result-2 c = omega (arith, c.shared_slice_known-2-1.given (c.args.at + 1))
-
-pub overflow_mul-result : goal.overflow_mul-result
-overflow_mul-result c = omega (arith, c.shared_slice_known-2-1.given (c.args.at + 1))
-
-pub overflow_add-result-2 : goal.overflow_add-result-2
-overflow_add-result-2 c = omega (arith, c.shared_slice_known-2-1.given (c.args.at + 1), c.shared_slice_known-1.given c.args.at)
 
 pub returns : goal.returns
 unfolding u16_at
-returns c = search rules
+returns c = omega (arith, c.from_le_bytes.ensures)

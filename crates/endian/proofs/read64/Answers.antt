@@ -1,7 +1,7 @@
-use native.Mathlib.Omega.{arith}
-use Rattle.endian.specs.Believed.Numbers.{u64_at}
+use Rattle.std.proofs.Common.{arith, add_assoc}
+use Rattle.endian.specs.Believed.Numbers.{u16_at, u32_at, u64_at}
 use Rattle.endian.proofs.read64.Goals as goal
 
 pub returns : goal.returns
-unfolding u64_at
-returns c = omega arith
+unfolding u16_at u32_at u64_at
+returns c = simp add_assoc (omega (arith, c.from_le_bytes.ensures))

@@ -1,12 +1,8 @@
+use Rattle.std.proofs.Common.{◌∙◌, arith}
 use Rattle.endian.specs.Believed.Numbers.{bytes16}
-use lib.ListN.{length-set}
-use native.Mathlib.Numerals.{add-one}
-use native.Mathlib.Omega.{arith}
+use Rattle.endian.proofs.WrittenLaws.{put-sets, spelt16}
 use Rattle.endian.proofs.write16.Goals as goal
-
-pub bounds-d-at-2 : goal.bounds-d-at-2
-bounds-d-at-2 c = simp length-set (omega arith)
 
 pub returns : goal.returns
 unfolding bytes16
-returns c = rw add-one
+returns c = put-sets _ _ _ _ _ c.requires (omega arith) (c.copy_from_slice.ensures.after ∙ c.to_le_bytes.ensures ∙ spelt16 c.args.v c.ranges.v.fits)

@@ -1,8 +1,8 @@
-use Rattle.endian.proofs.WrittenLaws.{sets-twice}
+use Rattle.std.proofs.Common.{◌∙◌, arith}
 use Rattle.endian.specs.Believed.Numbers.{bytes16, bytes32}
-use Prim.Native.Nat.{◌/◌, ◌%◌}
+use Rattle.endian.proofs.WrittenLaws.{put-sets, spelt32}
 use Rattle.endian.proofs.write32.Goals as goal
 
 pub returns : goal.returns
 unfolding bytes16 bytes32
-returns c = let a = c.args in sets-twice a.d.now a.at (bytes16 (a.v % 65536)) (bytes16 (a.v / 65536)) c.write16.ensures c.write16-2.ensures
+returns c = put-sets _ _ _ _ _ c.requires (omega arith) (c.copy_from_slice.ensures.after ∙ c.to_le_bytes.ensures ∙ spelt32 c.args.v c.ranges.v.fits)

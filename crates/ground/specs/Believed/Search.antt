@@ -1,6 +1,5 @@
 -- Whether some element or some number passes a test, and which number.
-use Rattle.std.specs.Prelude.{ℕ, zero, suc, ◌+◌, Bool, true, false, ◌||◌, List, [], ◌∷◌}
-use Rattle.std.proofs.Math.Option.{Option, none, some}
+use Rattle.std.specs.Prelude.{ℕ, zero, suc, ◌+◌, Bool, true, false, ◌||◌, List, [], ◌∷◌, Option, None, Some}
 use Rattle.ground.specs.Believed.Choice.{pick}
 
 -- some element of a list passes
@@ -20,13 +19,13 @@ any_below (suc n) f = any_below n f || f n
 
 -- the first of two that is there
 unfoldable pub first_there : Option ℕ → Option ℕ → Option ℕ
-first_there none o = o
-first_there (some k) o = some k
+first_there None o = o
+first_there (Some k) o = Some k
 
 -- the lowest number below n that passes
 unfoldable pub lowest_below : ℕ → (ℕ → Bool) → Option ℕ
-lowest_below zero f = none
-lowest_below (suc n) f = first_there (lowest_below n f) (pick (f n) (some n) none)
+lowest_below zero f = None
+lowest_below (suc n) f = first_there (lowest_below n f) (pick (f n) (Some n) None)
 
 -- the highest number below n that passes, and 0 where none does
 unfoldable pub highest_below : ℕ → (ℕ → Bool) → ℕ

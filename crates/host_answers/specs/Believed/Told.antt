@@ -1,6 +1,5 @@
 -- What the C interface tells, in plain numbers: a refusal's number or 0, then the values, 0 where there is none.
-use Rattle.std.specs.Prelude.{ℕ}
-use Rattle.std.proofs.Math.Option.{Option, none, some}
+use Rattle.std.specs.Prelude.{ℕ, Option, None, Some}
 use Rattle.ground.specs.Believed.Outcome.{Outcome, refused, given}
 use Rattle.calendar.specs.declared.Date.{Date}
 use Rattle.rota.specs.declared.Counts as rota
@@ -47,8 +46,8 @@ telling n y v = record { refusal = n; yes = y; value = v }
 
 -- 1 for yes, with its role
 abbrev pub answer_told : Option ℕ → Told
-answer_told none = telling 0 0 0
-answer_told (some r) = telling 0 1 r
+answer_told None = telling 0 0 0
+answer_told (Some r) = telling 0 1 r
 
 abbrev pub question_told : Outcome (Option ℕ) → Told
 question_told (refused n) = telling n 0 0
@@ -57,8 +56,8 @@ question_told (given o) = answer_told o
 -- 1 with the minute of the next use (document 02, item 1)
 abbrev pub next_told : Outcome (Option ℕ) → NextTold
 next_told (refused n) = record { refusal = n; found = 0; minute = 0 }
-next_told (given none) = record { refusal = 0; found = 0; minute = 0 }
-next_told (given (some t)) = record { refusal = 0; found = 1; minute = t }
+next_told (given None) = record { refusal = 0; found = 0; minute = 0 }
+next_told (given (Some t)) = record { refusal = 0; found = 1; minute = t }
 
 -- a call tells the count of an advance, or an answer
 abbrev pub gift_told : Gift → Told

@@ -1,4 +1,4 @@
-use mathlib.Core.Path.{refl}
+use Rattle.std.proofs.Common.{refl}
 use Rattle.host_page.proofs.accepted.Goals as goal
 
 -- stated, so that an edit of the count fails on it

@@ -1,6 +1,5 @@
 -- A page of questions (document 02, item 6): a list of records, each with user, permission, minute and a place for its answer, put to a rota or to a table.
-use Rattle.std.specs.Prelude.{ℕ, List, map, eqb, ltb, length}
-use Rattle.std.proofs.Math.Option.{Option, none, some}
+use Rattle.std.specs.Prelude.{ℕ, List, map, eqb, ltb, length, Option, None, Some}
 use Rattle.ground.specs.Believed.Choice.{pick}
 use Rattle.ground.specs.Believed.Judgement.{refuse, ◌or_else◌}
 use Rattle.ground.specs.Believed.Outcome.{Outcome, refused, given}
@@ -13,8 +12,8 @@ use Rattle.host_page.specs.declared.Question.{Question}
 -- what a place receives: the number of a refusal, or 0; 1 for yes, with its role
 abbrev pub place_told : Outcome (Option ℕ) → Place
 place_told (refused n) = record { refusal = n; yes = 0; role = 0 }
-place_told (given none) = record { refusal = 0; yes = 0; role = 0 }
-place_told (given (some r)) = record { refusal = 0; yes = 1; role = r }
+place_told (given None) = record { refusal = 0; yes = 0; role = 0 }
+place_told (given (Some r)) = record { refusal = 0; yes = 1; role = r }
 
 -- a record whose place has what the single question gives on these bytes; its other fields keep their contents
 unfoldable pub answered : Kind → List ℕ → Question → Question

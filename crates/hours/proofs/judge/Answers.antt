@@ -2,7 +2,9 @@
 use Rattle.hours.proofs.PairLaws.{pairs-refuse, pairs-pass}
 use Rattle.hours.proofs.JudgeLaws.{cut_off, disordered, too-late, no-pair, too_many, pairs-cut, by-pairs}
 use Rattle.minutes.specs.Believed.Minutes.{E}
-use native.Mathlib.Omega.{arith}
+use Rattle.std.proofs.Common.{refl, arith}
+use Rattle.std.proofs.lemmas.Result.{err_from_is_err_and}
+use Rattle.refusal.proofs.RefusalLaws.{number-some}
 use Rattle.hours.proofs.judge.Goals as goal
 
 pub returns-then-s-lt10 : goal.returns-then-s-lt10
@@ -34,10 +36,14 @@ pub returns-then-s-at-2 : goal.returns-then-s-at-2
 unfolding E
 returns-then-s-at-2 c = pairs-cut _ _ _ _ (omega arith) (omega arith) (omega arith) (λ z. omega arith) (omega arith) (omega arith)
 
-pub returns-then-bad-ne0 : goal.returns-then-bad-ne0
+pub returns-in_err-judge_pairs : goal.returns-in_err-judge_pairs
 unfolding E
-returns-then-bad-ne0 c = pairs-refuse _ _ _ _ _ _ c.read16-n.ensures c.judge_pairs-bad.ensures c.if-bad-ne0.true (by-pairs _ _ _ _ (omega arith) (omega arith) (omega arith) (λ z. omega arith) (omega arith) (omega arith))
+returns-in_err-judge_pairs c =
+    let p = err_from_is_err_and c.from_residual.result c.from_residual.ensures.1 in
+    rw (p.1, p.2) (pairs-refuse _ _ _ _ _ _ c.read16-n.ensures c.in_err-judge_pairs.ensures (number-some _)
+    (by-pairs _ _ _ _ (omega arith) (omega arith) (omega arith) (λ z. omega arith) (omega arith) (omega arith)))
 
 pub returns : goal.returns
 unfolding E
-returns c = pairs-pass _ _ _ _ _ _ c.read16-n.ensures c.judge_pairs-bad.ensures c.if-bad-ne0.false (by-pairs _ _ _ _ (omega arith) (omega arith) (omega arith) (λ z. omega arith) (omega arith) (omega arith))
+returns c = pairs-pass _ _ _ _ _ _ c.read16-n.ensures c.in_ok-judge_pairs.ensures refl
+    (by-pairs _ _ _ _ (omega arith) (omega arith) (omega arith) (λ z. omega arith) (omega arith) (omega arith))

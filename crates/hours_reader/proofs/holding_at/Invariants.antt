@@ -1,11 +1,7 @@
 -- The records so far that hold at the minute are gathered.
 use Rattle.hours.specs.Believed.Hours.{holds}
 use Rattle.hours_reader.proofs.WalkLaws.{Gathered}
-use Prim.Native.Nat.{◌-◌}
 use Rattle.hours_reader.proofs.holding_at.Given as goal
 
 abbrev pub invariant-loop-k : goal.invariant-loop-k
 invariant-loop-k l = Gathered l.s l.from l.h (λ r. holds l.cycle r l.t) l.set l.at l.k
-
-abbrev pub decreases-loop-k : goal.decreases-loop-k
-decreases-loop-k l = l.h - l.k

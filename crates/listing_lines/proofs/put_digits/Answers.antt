@@ -1,22 +1,20 @@
 -- The last digits are stored and the number is divided; what is left to store are the digits of what is left.
-use Rattle.listing_lines.proofs.DigitLaws.{digit-turn, digits-none}
-use lib.ListN.{length-set}
-use native.Mathlib.Nat.{mod-lt}
-use native.Mathlib.Omega.{arith}
-use mathlib.Core.Path.{◌∙◌}
+use Rattle.std.proofs.Common.{◌∙◌, arith, List, ℕ, replicate}
+use Rattle.std.proofs.Math.ListN.{length-set}
+use Rattle.listing_lines.proofs.DigitLaws.{digit-turn, digits-front}
 use Rattle.listing_lines.proofs.put_digits.Goals as goal
 
-pub digit-requires : goal.digit-requires
-digit-requires c = omega (arith, mod-lt c.loop-i.rest c.requires.0)
-
-pub bounds-out-at : goal.bounds-out-at
-bounds-out-at c = omega arith
-
 pub loop-i-preserved : goal.loop-i-preserved
-loop-i-preserved c = let a = c.args in let l = c.loop-i in (omega arith, simp length-set (omega arith), digit-turn l.out a.at a.base l.i l.rest (omega arith) c.digit.ensures ∙ l.invariant.2)
-
-pub shape_of-out : goal.shape_of-out
-shape_of-out c = omega arith
+loop-i-preserved c =
+    let l = c.loop-i in
+    record {
+      long = simp length-set (omega arith);
+      stored = digit-turn l.text c.args.base l.i l.rest (omega arith) c.digit.ensures ∙ l.invariant.stored;
+    }
 
 pub returns : goal.returns
-returns c = let a = c.args in let l = c.loop-i in digits-none l.out a.at a.base l.i l.rest (omega arith) ∙ l.invariant.2
+returns c =
+    let a = c.args in
+    let l = c.loop-i in
+    let zeros : List ℕ = replicate 16 0 in
+    rw (← (digits-front l.text zeros a.base l.i l.rest a.k a.n (omega arith) (omega arith) l.invariant.stored)) c.put.ensures

@@ -1,13 +1,11 @@
 -- The last digits are stored and the number is divided; what is left to store are the digits of what is left.
+use Rattle.std.proofs.Common.{◌≡◌, length}
+use Rattle.std.proofs.lemmas.List.Edits.{sets as stores}
 use Rattle.listing_lines.specs.Believed.Lines.{digits}
-use lib.Seq.{sets}
-use lib.ListN.{length}
-use mathlib.Core.Path.{◌≡◌}
-use Prim.Native.Nat.{◌≤◌}
 use Rattle.listing_lines.proofs.put_digits.Given as goal
 
 abbrev pub invariant-loop-i : goal.invariant-loop-i
-invariant-loop-i l = (l.i ≤ l.k) × (length l.out ≡ length l.initial.out) × (sets l.out l.at (digits l.base l.i l.rest) ≡ sets l.initial.out l.at (digits l.base l.k l.n))
-
-abbrev pub decreases-loop-i : goal.decreases-loop-i
-decreases-loop-i l = l.i
+invariant-loop-i l = record {
+  long : length l.text ≡ 16;
+  stored : stores l.text 0 (digits l.base l.i l.rest) ≡ stores l.initial.text 0 (digits l.base l.k l.n);
+}

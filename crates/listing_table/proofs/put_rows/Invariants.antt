@@ -1,16 +1,13 @@
 -- The text so far is that of the rows so far.
+use Rattle.std.proofs.Common.{◌+◌, ◌*◌, ◌≤◌}
 use Rattle.ground.specs.Believed.Sequence.{list_of, joined}
-use Rattle.table.specs.Believed.TableBytes.{derived_of, row_of}
-use Rattle.listing_lines.specs.Written.{Put}
+use Rattle.output.specs.Put.{Put}
+use Rattle.table.specs.Believed.TableBytes.{row_of}
 use Rattle.listing_table.specs.Believed.TableText.{row_text}
-use mathlib.Core.Path.{◌≡◌}
-use Prim.Native.Nat.{◌+◌, ◌-◌, ◌*◌, ◌≤◌}
 use Rattle.listing_table.proofs.put_rows.Given as goal
 
-abbrev pub invariant-loop-left : goal.invariant-loop-left
-invariant-loop-left l =
-    (l.left ≤ l.n) × (l.p ≡ 16 + 17 * derived_of l.t + 16 * (l.n - l.left)) × Put (joined row_text (list_of (l.n - l.left) (row_of l.t))) l.initial.out l.at l.out l.next
-    × (l.next ≤ l.at + 61 * (l.n - l.left))
-
-abbrev pub decreases-loop-left : goal.decreases-loop-left
-decreases-loop-left l = l.left
+abbrev pub invariant-loop-i : goal.invariant-loop-i
+invariant-loop-i l = record {
+  text : Put (joined row_text (list_of l.i (row_of l.t))) l.initial.out l.out;
+  short : l.out.at ≤ l.initial.out.at + 61 * l.i;
+}

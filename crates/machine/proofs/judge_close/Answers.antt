@@ -1,20 +1,23 @@
+use Rattle.std.proofs.lemmas.Result.{err_from_is_err_and}
+use Rattle.std.proofs.Common.{refl}
 use Rattle.machine.proofs.CoreLaws.{first, onward}
 use Rattle.machine.specs.Believed.Machine.{close_judged}
 use Rattle.ground.proofs.JudgementLaws.{tests}
 use Rattle.ground.specs.Believed.Judgement.{refuse, ◌or_else◌}
+use Rattle.refusal.proofs.RefusalLaws.{number-some}
 use Rattle.machine.proofs.judge_close.Goals as goal
 
-pub returns-then-bad-ne0 : goal.returns-then-bad-ne0
-returns-then-bad-ne0 c = first _ _ _ c.judge_state-bad.ensures c.if-bad-ne0.true
+pub returns-in_err-judge_state : goal.returns-in_err-judge_state
+returns-in_err-judge_state c = let p = err_from_is_err_and c.from_residual.result c.from_residual.ensures.1 in rw (p.1, p.2) (first _ _ _ c.in_err-judge_state.ensures (number-some _))
 
 pub returns-then-users-u : goal.returns-then-users-u
 unfolding close_judged refuse ◌or_else◌
-returns-then-users-u c = onward _ _ _ _ c.judge_state-bad.ensures c.if-bad-ne0.false (search (tests))
+returns-then-users-u c = onward _ _ _ _ c.in_ok-judge_state.ensures refl (search (tests))
 
-pub returns-then-contains : goal.returns-then-contains
+pub returns-then-not-contains : goal.returns-then-not-contains
 unfolding close_judged refuse ◌or_else◌
-returns-then-contains c = onward _ _ _ _ c.judge_state-bad.ensures c.if-bad-ne0.false (search (tests, ← c.contains.ensures, c.if-contains.true))
+returns-then-not-contains c = onward _ _ _ _ c.in_ok-judge_state.ensures refl (search (tests, ← c.contains.ensures, c.if-not-contains.true))
 
-pub returns-else-contains : goal.returns-else-contains
+pub returns : goal.returns
 unfolding close_judged refuse ◌or_else◌
-returns-else-contains c = onward _ _ _ _ c.judge_state-bad.ensures c.if-bad-ne0.false (search (tests, ← c.contains.ensures, c.if-contains.false))
+returns c = onward _ _ _ _ c.in_ok-judge_state.ensures refl (search (tests, ← c.contains.ensures, c.if-not-contains.false))

@@ -11,10 +11,10 @@ pub returns-then-contains : goal.returns-then-contains
 unfolding open_judged refuse ◌or_else◌
 returns-then-contains c = search (tests, ← c.contains.ensures, c.if-contains.true)
 
-pub returns-then-contains-2 : goal.returns-then-contains-2
+pub returns-then-not-contains : goal.returns-then-not-contains
 unfolding open_judged refuse ◌or_else◌
-returns-then-contains-2 c = search (tests, ← c.contains.ensures, ← c.contains-2.ensures, c.if-contains.false, c.if-contains-2.true)
+returns-then-not-contains c = search (tests, ← c.contains.ensures, ← c.contains-2.ensures, c.if-contains.false, c.if-not-contains.true)
 
-pub returns-else-contains-2 : goal.returns-else-contains-2
+pub returns : goal.returns
 unfolding open_judged refuse ◌or_else◌
-returns-else-contains-2 c = search (tests, ← c.contains.ensures, ← c.contains-2.ensures, c.if-contains.false, c.if-contains-2.false)
+returns c = search (tests, ← c.contains.ensures, ← c.contains-2.ensures, c.if-contains.false, c.if-not-contains.false)

@@ -6,10 +6,10 @@ pub returns-then-service-ge-END : goal.returns-then-service-ge-END
 unfolding E
 returns-then-service-ge-END c = state-late _ _ c.if-service-ge-END.true
 
-pub returns-then-all_below : goal.returns-then-all_below
+pub returns-then-not-all_below : goal.returns-then-not-all_below
 unfolding E
-returns-then-all_below c = state-fine _ _ c.if-service-ge-END.false _ c.all_below.ensures c.if-all_below.true
+returns-then-not-all_below c = state-over _ _ c.if-service-ge-END.false _ c.all_below.ensures c.if-not-all_below.true
 
-pub returns-else-all_below : goal.returns-else-all_below
+pub returns : goal.returns
 unfolding E
-returns-else-all_below c = state-over _ _ c.if-service-ge-END.false _ c.all_below.ensures c.if-all_below.false
+returns c = state-fine _ _ c.if-service-ge-END.false _ c.all_below.ensures c.if-not-all_below.false

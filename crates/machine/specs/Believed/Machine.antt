@@ -1,7 +1,6 @@
 -- The plain machine (document 01, "The service"; refusals 40 to 44), as document 02, item 3, amends it. It is fed what answers questions, a policy,
 -- and the calls' arguments, and keeps a state of its own. It knows nothing of bytes.
-use Rattle.std.specs.Prelude.{ℕ, zero, suc, ◌+◌, ◌^◌, Bool, not, ◌||◌, List, [], ◌∷◌, leb, ltb}
-use Rattle.std.proofs.Math.Option.{Option}
+use Rattle.std.specs.Prelude.{ℕ, zero, suc, ◌+◌, ◌^◌, Bool, not, ◌||◌, List, [], ◌∷◌, leb, ltb, Option}
 use Rattle.ground.specs.Believed.Judgement.{refuse, ◌or_else◌}
 use Rattle.ground.specs.Believed.Outcome.{Outcome, refused, given}
 use Rattle.bitset.specs.Believed.Sets.{has, insert, remove, difference, count}

@@ -1,14 +1,13 @@
-use Prim.Native.Nat.{◌+◌, ◌-◌}
-use native.Mathlib.Omega.{arith}
-use borrow.Author.Tests.{lt-leb, le-leb}
+use Rattle.std.proofs.Common.{◌+◌, ◌-◌, arith}
+use Rattle.std.proofs.lemmas.Bool.{le-leb, lt-leb}
 use Rattle.ground.proofs.BoolLaws.{ltb_iff}
 use Rattle.minutes.proofs.in_span.Goals as goal
 
-pub returns-then-x-offset : goal.returns-then-x-offset
-returns-then-x-offset c = simp (lt-leb _ _ c.if-x-offset.true)
-
-pub returns-else-x-offset : goal.returns-else-x-offset
-returns-else-x-offset c =
+pub returns-then-offset-x : goal.returns-then-offset-x
+returns-then-offset-x c =
     let a = c.args in
-    simp (le-leb _ _ c.if-x-offset.false)
+    simp (le-leb _ _ c.if-offset-x.true)
     (ltb_iff (a.x - a.offset) a.length a.x (a.offset + a.length) (λ h. omega arith) (λ h. omega arith))
+
+pub returns-else-offset-x : goal.returns-else-offset-x
+returns-else-offset-x c = simp (lt-leb _ _ c.if-offset-x.false)

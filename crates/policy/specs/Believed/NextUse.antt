@@ -1,7 +1,6 @@
 -- When a permission can next be used (document 02, item 1): from a minute m the first minute, m included, at which a user may use a permission, or
 -- none before E.
-use Rattle.std.specs.Prelude.{ℕ, ◌&&◌, leb}
-use Rattle.std.proofs.Math.Option.{Option}
+use Rattle.std.specs.Prelude.{ℕ, ◌&&◌, leb, Option}
 use Rattle.ground.specs.Believed.Judgement.{◌or_else◌}
 use Rattle.ground.specs.Believed.Outcome.{Outcome, outcome}
 use Rattle.ground.specs.Believed.Search.{lowest_below}

@@ -1,14 +1,11 @@
 -- What a rota and a table have in common: they answer a question at each minute (document 01, "Refusals by operation", one question without a
 -- service). A user is 01's volunteer and a permission is 01's right, as in document 003.
-use Rattle.std.specs.Prelude.{ℕ, Bool, true, false, leb}
-use Rattle.std.proofs.Math.Option.{Option, none, some}
+use Rattle.std.specs.Prelude.{ℕ, Bool, true, false, leb, Option, None, Some}
 use Rattle.ground.specs.Believed.Judgement.{refuse, ◌or_else◌}
-use Rattle.ground.specs.Believed.Outcome.{Outcome, refused, given, outcome}
+use Rattle.ground.specs.Believed.Outcome.{Outcome, outcome}
 use Rattle.ground.specs.Believed.Search.{any_below}
 use Rattle.bitset.specs.Believed.Sets.{set_of}
 use Rattle.minutes.specs.Believed.Minutes.{E}
-use Rattle.policy.specs.declared.Answer.{Answer}
-use Rattle.policy.specs.declared.Answer.TheVariants as answer
 
 -- how many users and permissions there are, and the answer for a user, a permission and a minute: yes with a role, or no
 pub record Policy : Type 0 where
@@ -17,8 +14,8 @@ pub record Policy : Type 0 where
   pub answer : ℕ → ℕ → ℕ → Option ℕ
 
 abbrev pub is_yes : Option ℕ → Bool
-is_yes none = false
-is_yes (some r) = true
+is_yes None = false
+is_yes (Some r) = true
 
 -- user u holds a permission at t, and the set of those who do
 unfoldable pub holds_any : Policy → ℕ → ℕ → Bool
@@ -33,9 +30,3 @@ arguments_judged users permissions u p t = refuse 33 (leb E t) or_else refuse 34
 
 unfoldable pub question : ℕ → Policy → ℕ → ℕ → ℕ → Outcome (Option ℕ)
 question bytes π u p t = outcome (bytes or_else arguments_judged π.users π.permissions u p t) (π.answer u p t)
-
--- what each case of the answer stands for
-abbrev pub answer_given : Answer → Outcome (Option ℕ)
-answer_given (answer.Yes r) = given (some r)
-answer_given answer.No = given none
-answer_given (answer.Refused n) = refused n

@@ -1,10 +1,15 @@
 -- What is left to write of entries and rows, written from here, is the whole: a role's entries and rows come off the front of each.
-use Prim.Native.Nat.{◌-◌}
+use Rattle.std.specs.Prelude.{is_some}
+use Rattle.rewrite_count.specs.Parts.{SameRoom}
+use Rattle.rewrite_count.proofs.ScratchLaws.{found_in}
 use Rattle.rewrite_fill.proofs.FillLaws.{Held}
 use Rattle.rewrite_fill.proofs.write_all.Given as goal
 
 abbrev pub invariant-loop-r : goal.invariant-loop-r
-invariant-loop-r l = Held l.keep l.s l.first l.end l.n l.total l.found l.initial.out l.initial.pairs l.initial.marks l.initial.links l.out l.pairs l.marks l.links l.d l.p l.r
-
-abbrev pub decreases-loop-r : goal.decreases-loop-r
-decreases-loop-r l = l.end - l.r
+invariant-loop-r l =
+    let ρ = l.fields.roles.now in
+    let t = l.scratch in
+    record {
+      held : Held (is_some t.kept) ρ.bytes.now ρ.first ρ.end l.fields.mask_count l.total (found_in t) l.initial.out l.out t.pairs.now t.marks.now l.d l.p l.r;
+      same : SameRoom l.initial.scratch t;
+    }

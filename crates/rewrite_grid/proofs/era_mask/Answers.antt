@@ -12,9 +12,6 @@ loop-k-init c = rw c.requires.1 (gather_none _ _ _ _)
 pub dates_hold-requires : goal.dates_hold-requires
 dates_hold-requires c = omega (arith, walk-within c.loop-k.invariant.passed c.requires.0 c.requires.2 c.loop-k-test.true)
 
-pub overflow_cast-k : goal.overflow_cast-k
-overflow_cast-k c = omega (arith, few-hours _ c.requires.0)
-
 pub with-set-requires : goal.with-set-requires
 with-set-requires c = omega (arith, few-hours _ c.requires.0)
 

@@ -1,5 +1,4 @@
 -- The records so far whose dates hold are gathered.
-use Prim.Native.Nat.{◌-◌}
 use Rattle.hours.specs.Inside.{dates_hold}
 use Rattle.hours_reader.proofs.WalkLaws.{Gathered}
 use Rattle.rota.specs.Believed.RotaBytes.{header_length}
@@ -7,6 +6,3 @@ use Rattle.rewrite_grid.proofs.era_mask.Given as goal
 
 abbrev pub invariant-loop-k : goal.invariant-loop-k
 invariant-loop-k l = Gathered l.s (header_length l.s) l.h (dates_hold l.t) l.set l.at l.k
-
-abbrev pub decreases-loop-k : goal.decreases-loop-k
-decreases-loop-k l = l.h - l.k

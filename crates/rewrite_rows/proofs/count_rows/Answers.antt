@@ -1,10 +1,9 @@
 -- Eras so far are counted.
-use native.Mathlib.Omega.{arith}
-use Prim.Native.Nat.{◌+◌}
+use Rattle.std.proofs.Common.{◌+◌, ◌∙◌, ap, arith, get_or}
 use Rattle.rewrite_grid.proofs.StretchLaws.{ends-rise}
-use Rattle.rewrite_rows.specs.Parts.{field_marks}
+use Rattle.rewrite_rows.specs.Parts.{field_marks, runs_in}
 use Rattle.rewrite_rows.proofs.FieldLaws.{marks-long, fewer-marks}
-use Rattle.rewrite_rows.proofs.CountLaws.{counting-start, counting-turn, counting-past, counting-end}
+use Rattle.rewrite_rows.proofs.CountLaws.{slice-marks, slice-have, counting-start, counting-turn, counting-past, counting-end}
 use Rattle.rewrite_rows.proofs.count_rows.Goals as goal
 
 pub loop-e-init : goal.loop-e-init
@@ -13,39 +12,32 @@ loop-e-init c = let a = c.args in counting-start a.ne a.ends.now (field_marks a.
 pub returns-then-limit-rows : goal.returns-then-limit-rows
 returns-then-limit-rows c = counting-past c.requires.2 c.loop-e.invariant _ c.if-limit-rows.true
 
-pub offset_bounds-ends-e : goal.offset_bounds-ends-e
-offset_bounds-ends-e c = omega arith
+pub offset_bounds-kinds-ends : goal.offset_bounds-kinds-ends
+offset_bounds-kinds-ends c = let a = c.args in let p = c.requires in let l = c.loop-e in
+    omega (arith, p.0.long, p.2 l.e c.loop-e-test.true, ends-rise a.ends.now a.ne p.2 (l.e + 1) a.ne (omega (arith, c.loop-e-test.true)) (omega arith))
 
-pub bounds-ends-e : goal.bounds-ends-e
-bounds-ends-e c = omega (arith, c.requires.1)
-
-pub overflow_add-e : goal.overflow_add-e
-overflow_add-e c = omega arith
-
-pub offset_bounds-ends-e-in-loop-e : goal.offset_bounds-ends-e-in-loop-e
-offset_bounds-ends-e-in-loop-e c = omega arith
-
-pub bounds-ends-e-in-loop-e : goal.bounds-ends-e-in-loop-e
-bounds-ends-e-in-loop-e c = omega (arith, c.requires.1)
+pub slice_bounds-count_era-end : goal.slice_bounds-count_era-end
+slice_bounds-count_era-end c = let a = c.args in let p = c.requires in let l = c.loop-e in
+    omega (arith, p.0.long, p.2 l.e c.loop-e-test.true, ends-rise a.ends.now a.ne p.2 (l.e + 1) a.ne (omega (arith, c.loop-e-test.true)) (omega arith))
 
 pub count_era-rows-requires : goal.count_era-rows-requires
-count_era-rows-requires c = let a = c.args in let p = c.requires in let l = c.loop-e in let h = c.loop-e-test.true in (
-  fewer-marks _ _ _ _ (ends-rise a.ends.now a.ne p.2 (l.e + 1) a.ne (omega arith) (omega arith)) p.0,
-  p.2 l.e h,
-)
+count_era-rows-requires c = let a = c.args in let p = c.requires in let l = c.loop-e in
+    slice-have a.kinds.now a.marks.now (get_or a.ends.now l.e 0) (get_or a.ends.now (l.e + 1) 0) (p.2 l.e c.loop-e-test.true)
+    (fewer-marks _ _ _ _ (ends-rise a.ends.now a.ne p.2 (l.e + 1) a.ne (omega (arith, c.loop-e-test.true)) (omega arith)) p.0)
 
 pub overflow_add-rows : goal.overflow_add-rows
 overflow_add-rows c = let a = c.args in let p = c.requires in let l = c.loop-e in
-    omega (arith, (counting-turn p.2 l.invariant (omega (arith, p.0.long, marks-long a.marks.now a.kinds.now)) c.loop-e-test.true _ c.count_era-rows.ensures).few, c.type_inv.ends (l.e + 1))
-
-pub overflow_add-e-in-loop-e : goal.overflow_add-e-in-loop-e
-overflow_add-e-in-loop-e c = omega arith
-
-pub loop-e-smaller : goal.loop-e-smaller
-loop-e-smaller c = omega arith
+    omega (
+      arith,
+      c.type_inv.ends (l.e + 1),
+      (counting-turn p.2 l.invariant (omega (arith, p.0.long, marks-long a.marks.now a.kinds.now)) c.loop-e-test.true _
+          (c.count_era-rows.ensures ∙ ap (runs_in 0) (slice-marks a.marks.now a.kinds.now (get_or a.ends.now l.e 0) (get_or a.ends.now (l.e + 1) 0) (p.2 l.e c.loop-e-test.true)))).few,
+    )
 
 pub loop-e-preserved : goal.loop-e-preserved
-loop-e-preserved c = let a = c.args in let p = c.requires in counting-turn p.2 c.loop-e.invariant (omega (arith, p.0.long, marks-long a.marks.now a.kinds.now)) c.loop-e-test.true _ c.count_era-rows.ensures
+loop-e-preserved c = let a = c.args in let p = c.requires in let l = c.loop-e in
+    counting-turn p.2 l.invariant (omega (arith, p.0.long, marks-long a.marks.now a.kinds.now)) c.loop-e-test.true _
+    (c.count_era-rows.ensures ∙ ap (runs_in 0) (slice-marks a.marks.now a.kinds.now (get_or a.ends.now l.e 0) (get_or a.ends.now (l.e + 1) 0) (p.2 l.e c.loop-e-test.true)))
 
 pub returns : goal.returns
-returns c = let l = c.loop-e in counting-end c.requires.2 l.invariant _ (omega (arith, l.invariant.up_to))
+returns c = let l = c.loop-e in counting-end c.requires.2 l.invariant _ (omega arith)

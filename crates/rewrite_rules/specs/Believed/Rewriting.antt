@@ -3,8 +3,7 @@
 -- which at most one is enabled at a time. It differs in that intervals are half open and share no minute, and that no remainder is kept or
 -- dropped step by step as in Fig. 6 there: the fields are laid out at once, and one is kept exactly when it has a minute at which the role is
 -- enabled and has a user and a permission.
-use Rattle.std.specs.Prelude.{ℕ, zero, suc, ◌+◌, ◌-◌, ◌*◌, Bool, not, ◌&&◌, List, [], ◌∷◌, ◌++◌, map, ltb, eqb, length, drop}
-use Rattle.std.proofs.Math.Option.{Option, none, some}
+use Rattle.std.specs.Prelude.{ℕ, zero, suc, ◌+◌, ◌-◌, ◌*◌, Bool, not, ◌&&◌, List, [], ◌∷◌, ◌++◌, map, ltb, eqb, length, drop, Option, None, Some}
 use Rattle.ground.specs.Believed.Choice.{pick}
 use Rattle.ground.specs.Believed.Judgement.{refuse, ◌or_else◌}
 use Rattle.ground.specs.Believed.Outcome.{Outcome, outcome}
@@ -70,8 +69,8 @@ active ρ r t = enabled ρ r t && not (eqb (users_at ρ r t) 0) && not (eqb (per
 
 -- a field is kept for r when some minute of the era has its remainder in the cell and r is active there: with the derived role that r is there
 abbrev pub derived_there : Rota → ℕ → Option ℕ → Option Entry
-derived_there ρ r none = none
-derived_there ρ r (some t) = some (derived_at ρ r t)
+derived_there ρ r None = None
+derived_there ρ r (Some t) = Some (derived_at ρ r t)
 
 unfoldable pub kept_as : Rota → ℕ → Window → Option Entry
 kept_as ρ r f = derived_there ρ r (lowest_below E (λ t. covers ρ.cycle f t && active ρ r t))
@@ -81,8 +80,8 @@ pub record Kept : Type 0 where
   pub field : Window
 
 abbrev pub keep : Option Entry → Window → List Kept → List Kept
-keep none f l = l
-keep (some e) f l = record { entry = e; field = f } ∷ l
+keep None f l = l
+keep (Some e) f l = record { entry = e; field = f } ∷ l
 
 -- of the fields in order, those that are kept for r
 unfoldable pub kept_of : Rota → ℕ → List Window → List Kept

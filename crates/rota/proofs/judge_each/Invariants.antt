@@ -1,7 +1,7 @@
 -- Row by row: its number out of range, then its place.
-use Prim.Native.Nat.{◌-◌, ◌≤◌}
-use mathlib.Core.Path.{◌≡◌}
+use Rattle.std.proofs.Common.{◌≡◌, ◌≤◌}
 use Rattle.ground.specs.Believed.Judgement.{in_turn}
+use Rattle.refusal.specs.Believed.Numbers.{number}
 use Rattle.rota.specs.Believed.RotaBytes.{row_at}
 use Rattle.rota.specs.Believed.Order.{least}
 use Rattle.rota.specs.Believed.RotaRefusals.{row_judged}
@@ -9,7 +9,8 @@ use Rattle.rota.proofs.judge_each.Given as goal
 
 abbrev pub invariant-loop-k : goal.invariant-loop-k
 invariant-loop-k l =
-    (l.k ≤ l.n) × (l.above ≤ 16777216) × (l.above ≡ least (row_at l.s l.at) l.k) × (in_turn (row_judged l.refusal l.top l.s l.at) l.k ≡ 0)
-
-abbrev pub decreases-loop-k : goal.decreases-loop-k
-decreases-loop-k l = l.n - l.k
+    record {
+      most : l.above ≤ 16777216;
+      next : l.above ≡ least (row_at l.s l.rows.at) l.k;
+      clear : in_turn (row_judged (number l.rows.refusal) l.rows.top l.s l.rows.at) l.k ≡ 0;
+    }

@@ -1,7 +1,5 @@
 use Rattle.rota.specs.Believed.RotaRefusals.{header_judged}
 use Rattle.ground.proofs.JudgementLaws.{tests}
-use native.Mathlib.Omega.{arith}
-use Rattle.rota.proofs.HeaderLaws.{header-long}
 use Rattle.ground.specs.Believed.Judgement.{refuse, ◌or_else◌}
 use Rattle.rota.proofs.judge_header.Goals as goal
 
@@ -9,15 +7,9 @@ pub returns-then-s-header_length : goal.returns-then-s-header_length
 unfolding header_judged refuse ◌or_else◌
 returns-then-s-header_length c = search (tests, ← c.header_length.ensures)
 
-pub read16-requires : goal.read16-requires
-read16-requires c = omega (arith, header-long _ c.header_length.ensures c.if-s-header_length.false)
-
 pub returns-then-not-is_read : goal.returns-then-not-is_read
 unfolding header_judged refuse ◌or_else◌
 returns-then-not-is_read c = search (tests, ← c.header_length.ensures, ← c.read16.ensures, ← c.is_read.ensures, c.if-not-is_read.true)
-
-pub read16-cycle-requires : goal.read16-cycle-requires
-read16-cycle-requires c = omega (arith, header-long _ c.header_length.ensures c.if-s-header_length.false)
 
 pub returns-then-cycle-eq0 : goal.returns-then-cycle-eq0
 unfolding header_judged refuse ◌or_else◌

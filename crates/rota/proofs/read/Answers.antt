@@ -1,10 +1,11 @@
+use Rattle.std.proofs.lemmas.Result.{err_from_is_err_and}
 use Rattle.rota.proofs.ReadLaws.{read-refused, read-given}
-use Rattle.rota.specs.Inside.{layout_given}
-use mathlib.Core.Path.{sym, ap, ◌∙◌}
 use Rattle.rota.proofs.read.Goals as goal
 
-pub returns-in-Refused : goal.returns-in-Refused
-returns-in-Refused c = read-refused _ _ (sym (ap layout_given c.in-Refused.is) ∙ c.locate.ensures)
+pub returns-in_err-l : goal.returns-in_err-l
+returns-in_err-l c =
+    let p = err_from_is_err_and c.from_residual.result c.from_residual.ensures.1 in
+    rw (p.1, p.2) (read-refused _ _ c.in_err-l.ensures)
 
-pub returns-in-Accepted : goal.returns-in-Accepted
-returns-in-Accepted c = read-given _ _ (sym (ap layout_given c.in-Accepted.is) ∙ c.locate.ensures)
+pub returns : goal.returns
+returns c = read-given _ _ c.in_ok-l.ensures

@@ -1,11 +1,9 @@
 -- What reading a rota answers.
 use Rattle.std.specs.Prelude.{ℕ, List}
-use Rattle.ground.specs.Believed.Outcome.{Outcome, refused, given, outcome}
+use Rattle.ground.specs.Believed.Outcome.{Outcome, outcome}
 use Rattle.rota.specs.Believed.RotaBytes.{format_of, cycle_of, hours_of, users_of, permissions_of, roles_of, user_rows_of, permission_rows_of}
 use Rattle.rota.specs.Believed.RotaRefusals.{rota_judged}
 use Rattle.rota.specs.declared.Counts.{Counts}
-use Rattle.rota.specs.declared.RotaAnswer.{RotaAnswer}
-use Rattle.rota.specs.declared.RotaAnswer.TheVariants.{Accepted, Refused}
 
 -- the counts of the header
 unfoldable pub counts_of : List ℕ → Counts
@@ -20,10 +18,6 @@ counts_of s =
       permission_rows = permission_rows_of s;
       format = format_of s;
     }
-
-abbrev pub rota_given : RotaAnswer → Outcome Counts
-rota_given (Accepted n) = given n
-rota_given (Refused n) = refused n
 
 unfoldable pub read_outcome : List ℕ → Outcome Counts
 read_outcome s = outcome (rota_judged s) (counts_of s)

@@ -1,8 +1,7 @@
 -- A rota and what it means (document 01, "The rota's bytes"). The meaning follows document 003: a role is enabled by the enabling text of its
 -- section 2.1; a user is assigned to a role, a permission to a role, and a user acquires a permission through a role by axioms 1 to 3 of its
 -- Table 3, each at the minutes of its own hours.
-use Rattle.std.specs.Prelude.{ℕ, Bool, ◌&&◌, List, eqb, length, get_or}
-use Rattle.std.proofs.Math.Option.{Option}
+use Rattle.std.specs.Prelude.{ℕ, Bool, ◌&&◌, List, eqb, length, get_or, Option}
 use Rattle.ground.specs.Believed.Search.{any, lowest_below}
 use Rattle.hours.specs.Believed.Hours.{Hours, ref_holds}
 use Rattle.hours.specs.declared.HoursRef.{HoursRef}

@@ -4,10 +4,10 @@ use Rattle.rota_holding.proofs.HeldLaws.{cycle-most, held}
 use Rattle.rota_holding.proofs.held_at.Goals as goal
 
 pub records_on-set-requires : goal.records_on-set-requires
-records_on-set-requires c = let p = c.requires in (records-fine _ _ p.0, few-hours _ _ p.0, some-cycle _ _ p.0, cycle-most _ _ p.0, p.2)
+records_on-set-requires c = let p = c.requires in (records-fine _ _ c.args.rota.now.located, few-hours _ _ c.args.rota.now.located, some-cycle _ _ c.args.rota.now.located, cycle-most _ _ c.args.rota.now.located, p.1)
 
 pub records_span-span-requires : goal.records_span-span-requires
-records_span-span-requires c = let p = c.requires in (records-fine _ _ p.0, few-hours _ _ p.0, some-cycle _ _ p.0, cycle-most _ _ p.0, p.2)
+records_span-span-requires c = let p = c.requires in (records-fine _ _ c.args.rota.now.located, few-hours _ _ c.args.rota.now.located, some-cycle _ _ c.args.rota.now.located, cycle-most _ _ c.args.rota.now.located, p.1)
 
 pub returns : goal.returns
-returns c = let p = c.requires in held _ _ p.0 _ _ p.2 c.records_on-set.ensures c.resting-r.ensures c.records_span-span.ensures
+returns c = let p = c.requires in held _ _ c.args.rota.now.located _ _ p.1 c.records_on-set.ensures c.resting-r.ensures c.records_span-span.ensures

@@ -7,7 +7,7 @@ use Rattle.rota_holding.proofs.PermittedLaws.{permitted-none, permitted-more}
 use Rattle.rota_holding.proofs.permitted.Goals as goal
 
 pub loop-k-init : goal.loop-k-init
-loop-k-init c = (omega arith, permitted-none _ _)
+loop-k-init c = permitted-none _ _
 
 pub overflow_mul-i : goal.overflow_mul-i
 overflow_mul-i c = omega (arith, row_within _ _ _ _ c.requires.0 _ c.loop-k-test.true)
@@ -46,10 +46,6 @@ pub bounds-sets-role-in-loop-k : goal.bounds-sets-role-in-loop-k
 bounds-sets-role-in-loop-k c = let p = c.requires in omega (arith, p.1, (p.0.each _ c.loop-k-test.true).role)
 
 pub loop-k-preserved : goal.loop-k-preserved
-loop-k-preserved c = let p = c.requires in (
-  omega arith,
-  permitted-more _ _ _ _ c.loop-k.invariant.1 _ _ _ _ refl (omega (arith, p.1, (p.0.each _ c.loop-k-test.true).role)) c.number_at.ensures.0 c.with.ensures refl,
-)
-
-pub returns : goal.returns
-returns c = rw (← (le_antisymm c.loop-k.invariant.0 c.loop-k-test.false)) c.loop-k.invariant.1
+loop-k-preserved c =
+    let p = c.requires in
+    permitted-more _ _ _ _ c.loop-k.invariant _ _ _ _ refl (omega (arith, p.1, (p.0.each _ c.loop-k-test.true).role)) c.number_at.ensures.0 c.with.ensures refl

@@ -4,7 +4,7 @@ use Rattle.rota_holding.proofs.RestLaws.{roles-most, permitted-as}
 use Rattle.rota_holding.proofs.permitted_hours.Goals as goal
 
 pub permitted-requires : goal.permitted-requires
-permitted-requires c = let p = c.requires in (permissions-fine _ _ p, roles-most _ _ p)
+permitted-requires c = (permissions-fine _ _ c.args.rota.now.located, roles-most _ _ c.args.rota.now.located)
 
 pub returns : goal.returns
-returns c = permitted-as _ _ c.requires c.permitted.ensures
+returns c = permitted-as _ _ c.args.rota.now.located c.permitted.ensures

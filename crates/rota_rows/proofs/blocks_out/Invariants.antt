@@ -1,12 +1,9 @@
 use mathlib.Core.Path.{◌≡◌}
 use mathlib.Core.Bool.{false}
-use Prim.Native.Nat.{◌≤◌, ◌-◌, ◌+◌, ◌*◌}
+use Prim.Native.Nat.{◌+◌, ◌*◌}
 use Rattle.ground.specs.Believed.Search.{any_below}
 use Rattle.rota_rows.specs.Rows.{byte_out}
 use Rattle.rota_rows.proofs.blocks_out.Given as goal
 
 abbrev pub invariant-loop-i : goal.invariant-loop-i
-invariant-loop-i l = (l.i ≤ l.n) × (any_below l.i (λ j. any_below 48 (byte_out l.low l.high l.s (l.at + 48 * j))) ≡ false)
-
-abbrev pub decreases-loop-i : goal.decreases-loop-i
-decreases-loop-i l = l.n - l.i
+invariant-loop-i l = (any_below l.i (λ j. any_below 48 (byte_out l.low l.high l.s (l.at + 48 * j))) ≡ false)

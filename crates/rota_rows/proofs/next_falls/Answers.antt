@@ -1,14 +1,10 @@
 -- The rise from a row to the next is by role, then number, then hours.
-use native.Mathlib.Omega.{arith}
-use Rattle.rota_rows.proofs.FallLaws.{rise-none, rise-some}
+use Rattle.std.proofs.Common.{ap, ◌∙◌}
+use Rattle.ground.specs.Believed.Search.{one}
+use Rattle.rota_rows.proofs.FallLaws.{falls-zero, byte-one}
 use Rattle.rota_rows.proofs.next_falls.Goals as goal
-
-pub returns-then-rise-eq0 : goal.returns-then-rise-eq0
-returns-then-rise-eq0 c =
-    rise-none _ _ (λ i. omega (arith, c.shared_slice_known-1.given i)) _ _ _ c.over-by_hours.ensures c.rise-by_number.ensures
-    c.rise.ensures c.if-rise-eq0.true
 
 pub returns : goal.returns
 returns c =
-    rise-some _ _ (λ i. omega (arith, c.shared_slice_known-1.given i)) _ _ _ c.over-by_hours.ensures c.rise-by_number.ensures
-    c.rise.ensures c.if-rise-eq0.false
+    c.from.ensures ∙ byte-one _
+    ∙ ap one (falls-zero _ _ (λ i. (c.type_inv.s i).fits) _ _ _ c.saturating_sub-by_hours.ensures c.rise-by_number.ensures c.rise.ensures)

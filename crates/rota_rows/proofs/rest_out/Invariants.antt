@@ -1,12 +1,9 @@
 use mathlib.Core.Path.{◌≡◌}
 use mathlib.Core.Bool.{false}
-use Prim.Native.Nat.{◌≤◌, ◌-◌, ◌+◌, ◌*◌}
+use Prim.Native.Nat.{◌+◌, ◌*◌}
 use Rattle.ground.specs.Believed.Search.{any_below}
 use Rattle.rota_rows.specs.Rows.{row_out}
 use Rattle.rota_rows.proofs.rest_out.Given as goal
 
 abbrev pub invariant-loop-k : goal.invariant-loop-k
-invariant-loop-k l = (l.k ≤ l.n) × (any_below l.k (λ i. row_out l.top l.roles l.hours l.s (l.at + 3 * i)) ≡ false)
-
-abbrev pub decreases-loop-k : goal.decreases-loop-k
-decreases-loop-k l = l.n - l.k
+invariant-loop-k l = (any_below l.k (λ i. row_out l.top l.roles l.hours l.s (l.at + 3 * i)) ≡ false)

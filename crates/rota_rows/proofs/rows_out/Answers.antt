@@ -12,7 +12,7 @@ pub returns-then-blocks_out : goal.returns-then-blocks_out
 returns-then-blocks_out c =
     sym
     (rows_split _ _ _ _ _ c.pattern-low.ensures c.pattern-high.ensures _
-    (λ i. omega (arith, c.shared_slice_known-1.given i)) _ _ _ (omega arith)
+    (λ i. (c.type_inv.s i).fits) _ _ _ (omega arith)
     ∙ or_left _ _ (sym c.blocks_out.ensures ∙ c.if-blocks_out.true))
 
 pub returns : goal.returns
@@ -20,5 +20,5 @@ returns c =
     c.rest_out-2.ensures
     ∙ sym
     (rows_split _ _ _ _ _ c.pattern-low.ensures c.pattern-high.ensures _
-    (λ i. omega (arith, c.shared_slice_known-1.given i)) _ _ _ (omega arith)
+    (λ i. (c.type_inv.s i).fits) _ _ _ (omega arith)
     ∙ or-skip _ _ (sym c.blocks_out.ensures ∙ c.if-blocks_out.false))

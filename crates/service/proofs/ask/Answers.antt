@@ -1,27 +1,29 @@
-use Rattle.service.proofs.LentReady.{ready}
-use Rattle.service.proofs.StepLaws.{bytes-refused, ask-refused, ask-answered}
+use Rattle.std.proofs.Common.{refl, sym, ◌∙◌, arith}
+use Rattle.std.proofs.lemmas.Result.{err_from_is_err_and}
 use Rattle.machine.proofs.CoreLaws.{ask-early, ask-inside}
-use Rattle.source.proofs.LentLaws.{stopped, reached, own, answer-is}
-use native.Mathlib.Omega.{arith}
-use mathlib.Core.Path.{◌∙◌}
+use Rattle.refusal.proofs.RefusalLaws.{number-some}
+use Rattle.service.proofs.LentReady.{ready, answer-is}
+use Rattle.service.proofs.StepLaws.{bytes-refused, ask-refused, ask-answered}
 use Rattle.service.proofs.ask.Goals as goal
 
-pub judge_ask-bad-requires : goal.judge_ask-bad-requires
-judge_ask-bad-requires c = (ready (reached _ _ _ c.lend.ensures c.in-Lent.is) c.users.ensures c.permissions.ensures).few
+pub returns-in_err-source : goal.returns-in_err-source
+returns-in_err-source c =
+    let p = err_from_is_err_and c.from_residual.result c.from_residual.ensures.1 in
+    let h = c.in_err-source.ensures.judged in
+    rw (p.1, p.2) (bytes-refused _ _ _ _ _ (sym h, λ z. number-some _ (h ∙ z)))
 
-pub returns-then-bad-ne0 : goal.returns-then-bad-ne0
-returns-then-bad-ne0 c = ask-refused (ready (reached _ _ _ c.lend.ensures c.in-Lent.is) c.users.ensures c.permissions.ensures) _ _ _ _ c.judge_ask-bad.ensures c.if-bad-ne0.true
+pub judge_ask-requires : goal.judge_ask-requires
+judge_ask-requires c = (ready c.in_ok-source.ensures.lent c.users.ensures c.permissions.ensures).few
+
+pub returns-in_err-judge_ask : goal.returns-in_err-judge_ask
+returns-in_err-judge_ask c =
+    let p = err_from_is_err_and c.from_residual-in_err-judge_ask.result c.from_residual-in_err-judge_ask.ensures.1 in
+    rw (p.1, p.2) (ask-refused (ready c.in_ok-source.ensures.lent c.users.ensures c.permissions.ensures) _ _ _ _ c.in_err-judge_ask.ensures (number-some _))
 
 pub answer_at-requires : goal.answer_at-requires
 answer_at-requires c =
-    let i = ask-inside _ _ _ _ _ _ c.judge_ask-bad.ensures c.if-bad-ne0.false in
-    (own (reached _ _ _ c.lend.ensures c.in-Lent.is), omega (arith, c.users.ensures), omega (arith, c.permissions.ensures), ask-early _ _ _ _ _ _ c.judge_ask-bad.ensures c.if-bad-ne0.false)
+    let i = ask-inside _ _ _ _ _ _ c.in_ok-judge_ask.ensures refl in
+    (omega (arith, c.users.ensures), omega (arith, c.permissions.ensures), ask-early _ _ _ _ _ _ c.in_ok-judge_ask.ensures refl)
 
-pub returns-in-Refused : goal.returns-in-Refused
-returns-in-Refused c = bytes-refused _ _ _ _ _ (stopped _ _ _ c.lend.ensures c.in-Refused.is)
-
-pub returns-else-bad-ne0 : goal.returns-else-bad-ne0
-returns-else-bad-ne0 c =
-    let w = reached _ _ _ c.lend.ensures c.in-Lent.is in
-    c.answered.ensures
-    ∙ ask-answered (ready w c.users.ensures c.permissions.ensures) _ _ _ _ _ c.judge_ask-bad.ensures c.if-bad-ne0.false (answer-is w _ _ _ c.answer_at.ensures)
+pub returns : goal.returns
+returns c = ask-answered (ready c.in_ok-source.ensures.lent c.users.ensures c.permissions.ensures) _ _ _ _ _ c.in_ok-judge_ask.ensures refl (answer-is c.in_ok-source.ensures.lent _ _ _ c.answer_at.ensures)

@@ -1,15 +1,13 @@
 -- No minute, one minute; else those who hold a permission to before the next cycle are left.
-use Prim.Native.Nat.{◌+◌, ◌-◌, ◌≤◌, ◌<◌}
-use mathlib.Core.Path.{◌≡◌}
+use Rattle.std.proofs.Common.{◌≡◌, ◌+◌, ◌-◌, ◌≤◌, ◌<◌}
 use Rattle.minutes.specs.Believed.Minutes.{E}
 use Rattle.policy.specs.Believed.Steady.{steady_over}
-use Rattle.source.specs.Believed.Lent.{policy_as}
-use Rattle.source.specs.Inside.{kind_of}
+use Rattle.source.specs.Inside.{policy_in}
 use Rattle.service_sweep.proofs.steady.Given as goal
 
-abbrev pub invariant-loop-t : goal.invariant-loop-t
-invariant-loop-t l =
-    (l.a ≤ l.t.next) × (l.t.next ≤ l.b) × (l.t.set ≡ steady_over (policy_as (kind_of l.source) l.s) l.among l.a l.t.next) × (0 < l.t.reach) × (l.t.reach ≤ E + E)
+abbrev pub invariant-loop-turn : goal.invariant-loop-turn
+invariant-loop-turn l =
+    (l.a ≤ l.turn.next) × (l.turn.next ≤ l.b) × (l.turn.set ≡ steady_over (policy_in l.source) l.among l.a l.turn.next) × (0 < l.turn.reach) × (l.turn.reach ≤ E + E)
 
-abbrev pub decreases-loop-t : goal.decreases-loop-t
-decreases-loop-t l = l.b - l.t.next
+abbrev pub decreases-loop-turn : goal.decreases-loop-turn
+decreases-loop-turn l = l.b - l.turn.next

@@ -5,11 +5,10 @@ use Rattle.host_page.proofs.PageLaws.{page-turn, page-ended}
 use Rattle.softlode.proofs.softlode_table_page.Goals as goal
 
 pub loop-i-init : goal.loop-i-init
-loop-i-init c = (omega arith, sym (up_to-zero _ _))
+loop-i-init c = sym (up_to-zero _ _)
 
 pub loop-i-preserved : goal.loop-i-preserved
-loop-i-preserved c = (omega (arith, c.loop-i-test.true), page-turn _ _ _ _ _ _ _ c.loop-i.invariant.1 c.answer_by_table.ensures)
+loop-i-preserved c = page-turn _ _ _ _ _ _ _ c.loop-i.invariant c.answer_by_table.ensures
 
 pub returns : goal.returns
-returns c =
-    (c.begin_table-b.ensures.judged, page-ended _ _ _ _ _ _ c.begin_table-b.ensures c.loop-i.invariant.0 c.loop-i-test.false c.loop-i.invariant.1)
+returns c = (c.begin_table-b.ensures.judged, page-ended _ _ _ _ _ _ c.begin_table-b.ensures c.loop-i.auto.i-end (omega arith) c.loop-i.invariant)

@@ -1,4 +1,4 @@
-use Rattle.std.proofs.Common.{◌≡◌, ◌-◌, ◌≤◌}
+use Rattle.std.proofs.Common.{◌≡◌}
 use Rattle.source.specs.declared.Kind.TheVariants.{Table}
 use Rattle.host_page.specs.Believed.Page.{answered}
 use Rattle.host_page.proofs.EachLaws.{up_to}
@@ -6,7 +6,4 @@ use Rattle.softlode.proofs.softlode_table_page.Given as goal
 
 -- the first i records have their answers
 abbrev pub invariant-loop-i : goal.invariant-loop-i
-invariant-loop-i l = (l.i ≤ l.b.count) × (l.questions ≡ up_to (answered Table l.s) l.i l.fn.questions)
-
-abbrev pub decreases-loop-i : goal.decreases-loop-i
-decreases-loop-i l = l.b.count - l.i
+invariant-loop-i l = l.questions ≡ up_to (answered Table l.s) l.i l.fn.questions

@@ -1,11 +1,9 @@
 -- What reading a table answers.
 use Rattle.std.specs.Prelude.{ℕ, List}
-use Rattle.ground.specs.Believed.Outcome.{Outcome, refused, given, outcome}
+use Rattle.ground.specs.Believed.Outcome.{Outcome, outcome}
 use Rattle.table.specs.Believed.TableBytes.{cycle_of, users_of, permissions_of, roles_of, derived_of, rows_of}
 use Rattle.table.specs.Believed.TableRefusals.{table_judged}
 use Rattle.table.specs.declared.Counts.{Counts}
-use Rattle.table.specs.declared.TableAnswer.{TableAnswer}
-use Rattle.table.specs.declared.TableAnswer.TheVariants.{Accepted, Refused}
 
 -- the counts of the header
 unfoldable pub counts_of : List ℕ → Counts
@@ -18,10 +16,6 @@ counts_of s =
       derived = derived_of s;
       rows = rows_of s;
     }
-
-abbrev pub table_given : TableAnswer → Outcome Counts
-table_given (Accepted n) = given n
-table_given (Refused n) = refused n
 
 unfoldable pub read_outcome : List ℕ → Outcome Counts
 read_outcome s = outcome (table_judged s) (counts_of s)

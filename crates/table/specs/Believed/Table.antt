@@ -1,6 +1,5 @@
 -- A table and what it means (document 01, "The table's bytes").
-use Rattle.std.specs.Prelude.{ℕ, Bool, ◌&&◌, List, eqb, length, get_or}
-use Rattle.std.proofs.Math.Option.{Option}
+use Rattle.std.specs.Prelude.{ℕ, Bool, ◌&&◌, List, eqb, length, get_or, Option}
 use Rattle.ground.specs.Believed.Search.{any, any_below, lowest_below}
 use Rattle.bitset.specs.Believed.Sets.{has}
 use Rattle.minutes.specs.Believed.Minutes.{Window, covers}

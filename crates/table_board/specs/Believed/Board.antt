@@ -1,6 +1,5 @@
 -- The staff board (document 02, item 5): for one minute the permissions of every user, and how many rows enable their derived role then.
-use Rattle.std.specs.Prelude.{ℕ, Bool, false, List, ltb, leb, replicate}
-use Rattle.std.proofs.Math.Option.{Option}
+use Rattle.std.specs.Prelude.{ℕ, Bool, false, List, ltb, leb, replicate, Option}
 use Rattle.ground.specs.Believed.Choice.{pick}
 use Rattle.ground.specs.Believed.Judgement.{refuse, ◌or_else◌}
 use Rattle.ground.specs.Believed.Outcome.{Outcome, refused, given, outcome}

@@ -1,72 +1,35 @@
 -- `best` is the first minute that the rows so far give; they are passed in blocks, and a block may be passed by its first and last row.
+use Rattle.std.proofs.Common.{◌∙◌, arith}
 use native.Mathlib.Nat.{le_antisymm}
-use native.Mathlib.Omega.{arith}
-use borrow.Author.Rules.{rules}
-use Rattle.minutes.specs.Believed.Minutes.{E}
-use Rattle.table_reader.proofs.ReadLaws.{opened-header}
-use Rattle.table.proofs.HeaderLaws.{laid}
-use Rattle.table_answers.proofs.AnswerLaws.{row_inside}
-use Rattle.table_next.proofs.PassLaws.{pass-none, pass-idle, pass_all, pass-stop, pass-now}
 use Rattle.std.proofs.lemmas.Bool.{not_from_true}
+use Rattle.minutes.specs.Believed.Minutes.{E}
+use Rattle.table_next.proofs.PassLaws.{pass-none, pass-idle, pass_all, pass-stop, pass-now, pass-used}
+use Rattle.table.proofs.FineLaws.{table-fine}
 use Rattle.table_next.proofs.first_use.Goals as goal
+use Rattle.table_next.proofs.first_use.Goals.{else-loop-k-test, then-loop-k-test+then-below-source, then-loop-k-test+else-below-source+then-not-is_idle+then-best-m}
 
 pub loop-k-init : goal.loop-k-init
 unfolding E
-loop-k-init c = (search rules, pass-none _ _ _ _ _ _)
-
-pub block_end-next-requires : goal.block_end-next-requires
-block_end-next-requires c = c.loop-k-test.true
-
-pub overflow_mul-at : goal.overflow_mul-at
-overflow_mul-at c = omega (arith, (laid _ _ (opened-header _ _ c.requires.0)).whole, c.loop-k-test.true)
-
-pub overflow_add-at : goal.overflow_add-at
-overflow_add-at c = omega (arith, (laid _ _ (opened-header _ _ c.requires.0)).whole, c.loop-k-test.true)
-
-pub row_role-requires : goal.row_role-requires
-row_role-requires c = row_inside _ _ c.requires.0 _ c.loop-k-test.true
-
-pub returns-then-below-row_role : goal.returns-then-below-row_role
-returns-then-below-row_role c = pass-stop _ _ c.requires.0 _ _ _ _ _ _ c.loop-k.invariant.1 c.loop-k-test.true (omega (arith, c.if-below-row_role.true, c.row_role.ensures))
-
-pub overflow_sub-next : goal.overflow_sub-next
-overflow_sub-next c = omega (arith, c.block_end-next.ensures, c.loop-k-test.true)
-
-pub overflow_mul-next : goal.overflow_mul-next
-overflow_mul-next c = omega (arith, (laid _ _ (opened-header _ _ c.requires.0)).whole, c.block_end-next.ensures, c.loop-k-test.true)
-
-pub overflow_add-first-in-loop-k : goal.overflow_add-first-in-loop-k
-overflow_add-first-in-loop-k c = omega (arith, (laid _ _ (opened-header _ _ c.requires.0)).whole, c.block_end-next.ensures, c.loop-k-test.true)
-
-pub is_idle-requires : goal.is_idle-requires
-is_idle-requires c =
-    let o = c.requires.0 in
-    (row_inside _ _ o _ c.loop-k-test.true, row_inside _ _ o _ (omega (arith, c.block_end-next.ensures, c.loop-k-test.true)))
-
-pub pass_rows-best-requires : goal.pass_rows-best-requires
-pass_rows-best-requires c =
-    let q = c.requires in
-    (q.0, q.1, q.2, q.3, omega (arith, c.block_end-next.ensures, c.loop-k-test.true), omega (arith, c.block_end-next.ensures), c.loop-k.invariant.1)
-
-pub returns-then-best-m : goal.returns-then-best-m
-returns-then-best-m c = pass-now _ _ c.requires.0 _ _ _ _ _ _ c.pass_rows-best.ensures (omega (arith, c.block_end-next.ensures)) c.if-best-m.true
-
-pub loop-k-smaller-else-best-m : goal.loop-k-smaller-else-best-m
-loop-k-smaller-else-best-m c = omega (arith, c.block_end-next.ensures, c.loop-k-test.true)
-
-pub loop-k-preserved-else-best-m : goal.loop-k-preserved-else-best-m
-loop-k-preserved-else-best-m c = (omega (arith, c.block_end-next.ensures), c.pass_rows-best.ensures)
-
-pub loop-k-smaller : goal.loop-k-smaller
-loop-k-smaller c = omega (arith, c.block_end-next.ensures, c.loop-k-test.true)
+loop-k-init c = (omega arith, pass-none _ _ _ _ _)
 
 pub loop-k-preserved : goal.loop-k-preserved
 loop-k-preserved c =
-    let e = c.block_end-next.ensures in (
+    let e = c.min.ensures in (
       omega arith,
-      pass-idle _ _ c.requires.0 _ _ _ _ _ _ c.loop-k.invariant.1 _ (omega (arith, c.loop-k-test.true)) (omega arith) _
+      pass-idle _ _ c.args.table.now.opened _ _ _ _ _ _ c.loop-k.invariant.1 _ (omega (arith, c.loop-k-test.true)) (omega (arith, c.rows-rows.ensures)) _
           c.is_idle.ensures (not_from_true _ c.if-not-is_idle.false),
     )
 
 pub returns : goal.returns
-returns c = pass_all _ _ c.requires.0 _ _ _ _ _ _ c.loop-k.invariant.1 (le_antisymm c.loop-k.invariant.0 c.loop-k-test.false)
+unfolding E
+returns c =
+    let o = c.args.table.now.opened in
+    let i = c.loop-k.invariant in
+    let e = c.rows-rows.ensures in
+    c.then_some.ensures
+    ∙ pass-used _ (table-fine _ o.clear) _ _ _ _ _
+    (elim c.loop-k-test.branch [
+      | else-loop-k-test w ↦ w.best-is ∙ pass_all _ _ o _ _ _ _ _ _ i.1 (le_antisymm i.0 w.loop-k-test.false ∙ e)
+      | then-loop-k-test+then-below-source w ↦ w.best-is ∙ pass-stop _ _ o _ _ _ _ _ _ i.1 (omega (arith, w.loop-k-test.true)) (omega (arith, w.if-below-source.true, w.source.ensures))
+      | then-loop-k-test+else-below-source+then-not-is_idle+then-best-m w ↦ w.best-is ∙ pass-now _ _ o _ _ _ _ _ _ w.pass_rows-best.ensures (omega (arith, w.min.ensures, w.loop-k-test.true)) w.if-best-m.true
+    ])

@@ -1,47 +1,38 @@
-use mathlib.Core.Path.{sym, ◌∙◌, ap}
-use native.Mathlib.Omega.{arith}
-use Rattle.minutes.specs.Believed.Minutes.{E}
-use Rattle.policy.proofs.QuestionOutcome.{minute-early, numbers-below}
+use Rattle.std.proofs.Common.{◌∙◌, ap, refl, sym, arith}
+use Rattle.std.proofs.lemmas.Result.{err_from_is_err_and}
+use Rattle.ground.specs.Believed.Outcome.{given}
 use Rattle.policy.proofs.NextUseLaws.{bytes-refused, numbers-refused, next-given}
+use Rattle.policy.proofs.QuestionOutcome.{minute-early, numbers-below}
+use Rattle.refusal.proofs.RefusalLaws.{number-some}
 use Rattle.table.specs.Believed.Table.{policy_of}
 use Rattle.table.specs.Believed.TableBytes.{table_of}
-use Rattle.table.specs.Believed.Answers.{table_given}
-use Rattle.table_reader.proofs.ReadLaws.{closed, opened, arguments-as}
-use Rattle.table_next.proofs.PassLaws.{next-some, next-never}
+use Rattle.table_reader.proofs.ReadLaws.{arguments-as}
+use Rattle.table_next.proofs.PassLaws.{next-is}
 use Rattle.table_next.proofs.next_use.Goals as goal
 
-pub returns-then-bad-ne0 : goal.returns-then-bad-ne0
-returns-then-bad-ne0 c =
-    let s = c.args.s.now in
-    let o = opened s _ (sym (ap table_given c.in-Accepted.is) ∙ c.read.ensures) in
-    numbers-refused _ (policy_of (table_of s)) _ _ _ _ o.clear (arguments-as s _ o _ _ _ c.judge_arguments-bad.ensures) c.if-bad-ne0.true
+pub returns-in_err-table : goal.returns-in_err-table
+returns-in_err-table c =
+    let p = err_from_is_err_and c.from_residual.result c.from_residual.ensures.1 in
+    let j = c.in_err-table.ensures.judged in
+    rw (p.1, p.2) (bytes-refused _ (policy_of (table_of c.args.s.now)) _ _ _ _ (sym j) (λ z. number-some _ (j ∙ z)))
 
-pub first_use-t-requires : goal.first_use-t-requires
-first_use-t-requires c =
-    let s = c.args.s.now in
-    let o = opened s _ (sym (ap table_given c.in-Accepted.is) ∙ c.read.ensures) in
-    let i = numbers-below _ _ _ _ _ _ c.judge_arguments-bad.ensures c.if-bad-ne0.false in
-    let h = minute-early 0 (policy_of (table_of s)) _ _ _ _ (arguments-as s _ o _ _ _ c.judge_arguments-bad.ensures) c.if-bad-ne0.false in
-    (o, i.0, i.1, omega arith)
+pub returns-in_err-judge_arguments : goal.returns-in_err-judge_arguments
+returns-in_err-judge_arguments c =
+    let p = err_from_is_err_and c.from_residual-in_err-judge_arguments.result c.from_residual-in_err-judge_arguments.ensures.1 in
+    let o = c.in_ok-table.table.opened in
+    rw (p.1, p.2, ← c.in_ok-table.ensures.lent)
+    (numbers-refused _ (policy_of (table_of _)) _ _ _ _ o.clear (arguments-as _ _ o _ _ _ c.in_err-judge_arguments.ensures) (number-some _))
 
-pub returns-in-Refused : goal.returns-in-Refused
-returns-in-Refused c =
-    let s = c.args.s.now in
-    let k = closed s _ (sym (ap table_given c.in-Refused.is) ∙ c.read.ensures) in
-    bytes-refused _ (policy_of (table_of s)) _ _ _ _ k.0 k.1
+pub first_use-requires : goal.first_use-requires
+first_use-requires c =
+    let o = c.in_ok-table.table.opened in
+    let i = numbers-below _ _ _ _ _ _ c.in_ok-judge_arguments.ensures refl in
+    let h = minute-early 0 (policy_of (table_of _)) _ _ _ _ (arguments-as _ _ o _ _ _ c.in_ok-judge_arguments.ensures) refl in
+    (i.0, i.1, omega (arith, h))
 
-pub returns-then-t-lt-END : goal.returns-then-t-lt-END
-unfolding E
-returns-then-t-lt-END c =
-    let s = c.args.s.now in
-    let o = opened s _ (sym (ap table_given c.in-Accepted.is) ∙ c.read.ensures) in
-    next-some s _ o _ _ _ _ c.first_use-t.ensures c.if-t-lt-END.true
-    ∙ next-given _ (policy_of (table_of s)) _ _ _ _ o.clear (arguments-as s _ o _ _ _ c.judge_arguments-bad.ensures) c.if-bad-ne0.false
-
-pub returns-else-t-lt-END : goal.returns-else-t-lt-END
-unfolding E
-returns-else-t-lt-END c =
-    let s = c.args.s.now in
-    let o = opened s _ (sym (ap table_given c.in-Accepted.is) ∙ c.read.ensures) in
-    next-never s _ o _ _ _ _ c.first_use-t.ensures c.if-t-lt-END.false
-    ∙ next-given _ (policy_of (table_of s)) _ _ _ _ o.clear (arguments-as s _ o _ _ _ c.judge_arguments-bad.ensures) c.if-bad-ne0.false
+pub returns : goal.returns
+returns c =
+    let o = c.in_ok-table.table.opened in
+    rw (← c.in_ok-table.ensures.lent)
+    (ap given (c.first_use.ensures ∙ next-is _ _ o _ _ _)
+    ∙ next-given _ (policy_of (table_of _)) _ _ _ _ o.clear (arguments-as _ _ o _ _ _ c.in_ok-judge_arguments.ensures) refl)

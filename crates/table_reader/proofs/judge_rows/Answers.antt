@@ -1,6 +1,5 @@
 -- The rows so far are not refused, and the row before is at hand with its source.
 use mathlib.Core.Path.{refl, sym, ◌∙◌}
-use native.Mathlib.Nat.{le_antisymm}
 use native.Mathlib.Omega.{arith}
 use Rattle.table.proofs.FineLaws.{row-alone}
 use Rattle.table_reader.proofs.RowLaws.{rows_none, row_read, row-bad, row-astray, row_next}
@@ -8,13 +7,7 @@ use Rattle.table.proofs.HeaderLaws.{laid}
 use Rattle.table_reader.proofs.judge_rows.Goals as goal
 
 pub loop-i-init : goal.loop-i-init
-loop-i-init c = rows_none _ _
-
-pub overflow_mul-at : goal.overflow_mul-at
-overflow_mul-at c = omega (arith, (laid _ _ c.requires).whole)
-
-pub overflow_add-at : goal.overflow_add-at
-overflow_add-at c = omega (arith, (laid _ _ c.requires).whole)
+loop-i-init c = let e = c.default-before.ensures in rw (e.0, e.1.0, e.1.1.0, e.1.1.1) (rows_none _ _)
 
 pub read32-derived-requires : goal.read32-derived-requires
 read32-derived-requires c = omega (arith, (laid _ _ c.requires).whole)
@@ -38,14 +31,11 @@ loop-i-preserved c =
     let p = c.requires.counts in
     row_next _ _ _ _ _ c.loop-i.invariant c.loop-i-test.true p _
     (row_read _ _ _ _ _ _ p refl c.read32-derived.ensures c.read_window-w.ensures) _ c.row_refused.ensures c.if-row_refused.false _
-    c.read8-source.ensures.0 _ c.window_follows.ensures c.if-window_follows.true
+    c.read8-source.ensures.0 _ c.window_follows.ensures c.if-not-window_follows.false
 
-pub returns-else-window_follows : goal.returns-else-window_follows
-returns-else-window_follows c =
+pub returns-then-not-window_follows : goal.returns-then-not-window_follows
+returns-then-not-window_follows c =
     let p = c.requires.counts in
     row-astray _ _ _ _ _ c.loop-i.invariant c.loop-i-test.true p _
     (row_read _ _ _ _ _ _ p refl c.read32-derived.ensures c.read_window-w.ensures) _ c.row_refused.ensures c.if-row_refused.false _
-    c.read8-source.ensures.0 _ c.window_follows.ensures c.if-window_follows.false
-
-pub returns : goal.returns
-returns c = rw (← (le_antisymm c.loop-i.invariant.below c.loop-i-test.false)) (sym c.loop-i.invariant.clear)
+    c.read8-source.ensures.0 _ c.window_follows.ensures c.if-not-window_follows.true

@@ -1,11 +1,7 @@
 -- The rows so far are not refused, and the row before is at hand with its source.
-use Prim.Native.Nat.{◌-◌}
 use Rattle.table.specs.Inside.{window_given}
 use Rattle.table_reader.proofs.RowLaws.{RowsWalked}
 use Rattle.table_reader.proofs.judge_rows.Given as goal
 
 abbrev pub invariant-loop-i : goal.invariant-loop-i
 invariant-loop-i l = RowsWalked l.s l.n.rows l.i l.role (window_given l.before)
-
-abbrev pub decreases-loop-i : goal.decreases-loop-i
-decreases-loop-i l = l.rows - l.i

@@ -1,28 +1,12 @@
-use mathlib.Core.Path.{sym, ◌∙◌, ap}
-use Rattle.table.specs.Believed.Answers.{table_given}
-use Rattle.table_reader.proofs.ReadLaws.{headed, by-header, by_entries, by_rows, all_read}
+use Rattle.std.proofs.lemmas.Result.{err_from_is_err_and}
+use Rattle.refusal.proofs.RefusalLaws.{number-some}
+use Rattle.table_reader.proofs.ReadLaws.{shut, told}
 use Rattle.table_reader.proofs.read.Goals as goal
 
-pub judge_entries-entry-requires : goal.judge_entries-entry-requires
-judge_entries-entry-requires c = headed _ _ (sym (ap table_given c.in-Accepted.is) ∙ c.read_header.ensures)
+pub returns-in_err-open : goal.returns-in_err-open
+returns-in_err-open c =
+    let p = err_from_is_err_and c.from_residual.result c.from_residual.ensures.1 in
+    rw (p.1, p.2) (shut _ _ (number-some _) c.in_err-open.ensures.judged)
 
-pub returns-then-entry-ne0 : goal.returns-then-entry-ne0
-returns-then-entry-ne0 c =
-    let h = headed _ _ (sym (ap table_given c.in-Accepted.is) ∙ c.read_header.ensures) in
-    by_entries _ _ h _ c.judge_entries-entry.ensures c.if-entry-ne0.true
-
-pub judge_rows-row-requires : goal.judge_rows-row-requires
-judge_rows-row-requires c = headed _ _ (sym (ap table_given c.in-Accepted.is) ∙ c.read_header.ensures)
-
-pub returns-then-row-ne0 : goal.returns-then-row-ne0
-returns-then-row-ne0 c =
-    let h = headed _ _ (sym (ap table_given c.in-Accepted.is) ∙ c.read_header.ensures) in
-    by_rows _ _ h _ c.judge_entries-entry.ensures c.if-entry-ne0.false _ c.judge_rows-row.ensures c.if-row-ne0.true
-
-pub returns-in-Refused : goal.returns-in-Refused
-returns-in-Refused c = by-header _ _ (sym (ap table_given c.in-Refused.is) ∙ c.read_header.ensures)
-
-pub returns-else-row-ne0 : goal.returns-else-row-ne0
-returns-else-row-ne0 c =
-    let h = headed _ _ (sym (ap table_given c.in-Accepted.is) ∙ c.read_header.ensures) in
-    all_read _ _ h _ c.judge_entries-entry.ensures c.if-entry-ne0.false _ c.judge_rows-row.ensures c.if-row-ne0.false
+pub returns : goal.returns
+returns c = rw (← c.in_ok-open.ensures.lent) (told _ _ c.in_ok-open.field-0.opened)

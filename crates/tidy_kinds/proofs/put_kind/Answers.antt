@@ -19,6 +19,6 @@ returns-then-not-any_falls c =
     let up = sym c.any_falls.ensures ∙ c.if-not-any_falls.true in
     let e = in-order-long a.s.now a.at a.n p.0 up in (
       c.copy.ensures
-          ∙ ap (sets a.out.now a.to) (in-order-bytes a.s.now a.at a.n p.0 up (λ i. omega (arith, c.shared_slice_known-1.given i))),
+          ∙ ap (sets a.out.now a.to) (in-order-bytes a.s.now a.at a.n p.0 up (λ i. omega (arith, c.type_inv.s i))),
       omega (arith, e),
     )

@@ -1,6 +1,0 @@
-use mathlib.Core.Path.{ap, ◌∙◌}
-use Rattle.host_answers.specs.Believed.Told.{stepped_by}
-use Rattle.host_calls.proofs.rota_advance_told.Goals as goal
-
-pub returns : goal.returns
-returns c = c.tell_advanced.ensures ∙ ap stepped_by c.advance.ensures

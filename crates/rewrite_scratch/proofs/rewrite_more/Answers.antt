@@ -1,6 +1,0 @@
-use native.Mathlib.Omega.{arith}
-use Rattle.rewrite_grid.proofs.LaidLaws.{fields-few}
-use Rattle.rewrite_scratch.proofs.rewrite_more.Goals as goal
-
-pub overflow_mul-ne : goal.overflow_mul-ne
-overflow_mul-ne c = omega (arith, fields-few c.requires.3)
