@@ -110,12 +110,17 @@ fn a_function_without_an_ensures_or_a_body() {
     some(hidden(RT, "#[unsafe(no_mangle)]", method), "a function of a library has no ensures");
     let array = "fn sets(s: &[u8; 4]) -> [u64; 33] {\n    [0; 33]\n}\n\n#[unsafe(no_mangle)]";
     some(hidden(RT, "#[unsafe(no_mangle)]", array), "a function of a library has no ensures");
-    let of_trait = "impl From<u32> for Told {\n    fn from(n: u32) -> Told {\n        Told { yes: n }\n    }\n}\n\n#[unsafe(no_mangle)]";
-    some(hidden(RT, "#[unsafe(no_mangle)]", of_trait), "a function of a library has no ensures");
-    let of_other = "impl From<u32> for Told {\n    ghost into_gives = { λ n told. told.yes ≡ n };\n\n    fn from(n: u32) -> Told {\n        Told { yes: n }\n    }\n}\n\n#[unsafe(no_mangle)]";
-    some(hidden(RT, "#[unsafe(no_mangle)]", of_other), "a function of a library has no ensures");
-    let in_body = "impl From<u32> for Told {\n    fn from(n: u32) -> Told {\n        ghost from_gives = { n };\n        Told { yes: n }\n    }\n}\n\n#[unsafe(no_mangle)]";
-    some(hidden(RT, "#[unsafe(no_mangle)]", in_body), "a function of a library has no ensures");
+    let of_trait = |member: &str, first: &str| {
+        let body =
+            format!("    fn from(n: u32) -> Told {{\n{first}        Told {{ yes: n }}\n    }}\n");
+        format!("impl From<u32> for Told {{\n{member}{body}}}\n\n#[unsafe(no_mangle)]")
+    };
+    let other = "    ghost into_gives = { λ n told. told.yes ≡ n };\n\n";
+    let in_body = "        ghost from_gives = { n };\n";
+    for (member, first) in [("", ""), (other, ""), ("", in_body)] {
+        let made = hidden(RT, "#[unsafe(no_mangle)]", &of_trait(member, first));
+        some(made, "a function of a library has no ensures");
+    }
     let by_itself = "ghost from_gives = { λ n told. told.yes ≡ n };\n\n#[unsafe(no_mangle)]";
     some(hidden(RT, "#[unsafe(no_mangle)]", by_itself), "an item that is not read");
     let in_trait = "trait Told2 {\n    fn yes(&self) -> u32;\n}\n\n#[unsafe(no_mangle)]";
