@@ -1,5 +1,5 @@
 -- The scratch of a pass over the roles keeps its room.
---     same-on                                 over two steps
+--     room-same, same-on                      over no step, and over two
 --     room-stays                              for deriving roles, and for keeping them
 --     found_in                                how many derived roles each role has, where the roles are kept
 --     of-kept, if-kept                        what is asked of these
@@ -12,8 +12,21 @@ use Rattle.rewrite_count.specs.Parts.{RoomFor, SameRoom}
 use Rattle.rewrite_count.specs.declared.fields.Fields.{Fields}
 use Rattle.rewrite_count.specs.declared.scratch.Scratch.{Scratch}
 
+pub room-same : (s : Scratch) → SameRoom s s
+room-same s = record { same-pairs = refl; same-marks = refl; same-links = refl; pairs = refl; marks = refl; links = refl; trees = refl; kept = refl }
+
 pub same-on : {s t u : Scratch} → SameRoom s t → SameRoom t u → SameRoom s u
-same-on a b = record { pairs = b.pairs ∙ a.pairs; marks = b.marks ∙ a.marks; links = b.links ∙ a.links; trees = b.trees ∙ a.trees; kept = b.kept ∙ a.kept }
+same-on a b =
+    record {
+      same-pairs = b.same-pairs ∙ a.same-pairs;
+      same-marks = b.same-marks ∙ a.same-marks;
+      same-links = b.same-links ∙ a.same-links;
+      pairs = b.pairs ∙ a.pairs;
+      marks = b.marks ∙ a.marks;
+      links = b.links ∙ a.links;
+      trees = b.trees ∙ a.trees;
+      kept = b.kept ∙ a.kept;
+    }
 
 pub room-stays : {f : Fields} {s t : Scratch} → SameRoom s t → RoomFor f s → RoomFor f t
 room-stays {f} {s} {t} e q =
@@ -62,6 +75,9 @@ module _ (i m : ℕ) {s t u v : Scratch} (a : SameRoom s t) (b : SameRoom t u) (
   pub noted-same : SameRoom s v
   noted-same =
       record {
+        same-pairs = ap (λ (x : Scratch). x.pairs.ghost_name) e ∙ b.same-pairs ∙ a.same-pairs;
+        same-marks = ap (λ (x : Scratch). x.marks.ghost_name) e ∙ b.same-marks ∙ a.same-marks;
+        same-links = ap (λ (x : Scratch). x.links.ghost_name) e ∙ b.same-links ∙ a.same-links;
         pairs = ap (λ (x : Scratch). length x.pairs.now) e ∙ b.pairs ∙ a.pairs;
         marks = ap (λ (x : Scratch). length x.marks.now) e ∙ b.marks ∙ a.marks;
         links = ap (λ (x : Scratch). length x.links.now) e ∙ b.links ∙ a.links;

@@ -40,8 +40,11 @@ pub record RoomFor (f : Fields) (s : Scratch) : Type 0 where
   pub room : Room f.mask_count s.trees f.masks.now s.pairs.now s.marks.now s.links.now
   pub for-kept : IsSome s.kept → KeepRoom (f.roles.now.end - f.roles.now.first) f.mask_count s.pairs.now s.marks.now
 
--- the room stays: each slice is as long as it was, there are as many trees, and roles are kept as before
+-- the room stays: each slice is the one that was lent, as long as it was, there are as many trees, and roles are kept as before
 pub record SameRoom (before after : Scratch) : Type 0 where
+  pub same-pairs : after.pairs.ghost_name ≡ before.pairs.ghost_name
+  pub same-marks : after.marks.ghost_name ≡ before.marks.ghost_name
+  pub same-links : after.links.ghost_name ≡ before.links.ghost_name
   pub pairs : length after.pairs.now ≡ length before.pairs.now
   pub marks : length after.marks.now ≡ length before.marks.now
   pub links : length after.links.now ≡ length before.links.now

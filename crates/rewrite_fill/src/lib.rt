@@ -34,9 +34,10 @@ pub fn write_all(fields: &Fields, out: &mut [u8], total: usize, scratch: &mut Sc
     requires room { RoomFor fields.now scratch.old }
     requires kept { IfSome scratch.old.kept (λ found. AllKept fields.now found scratch.old) }
     requires total_value { (total ≡ length (table_of fields.now.roles.now).entries) × (size_of (table_of fields.now.roles.now) ≤ length out.old) }
-    ensures { out.new
+    ensures written { out.new
         ≡ sets (sets out.old 16 (joined entry_bytes (table_of fields.now.roles.now).entries)) (16 + 17 * total)
         (joined row_bytes (table_of fields.now.roles.now).rows) }
+    ensures same { SameRoom scratch.old scratch.new × (scratch.new.kept ≡ scratch.old.kept) }
 {
     let roles = fields.roles;
     let division = roles.division;

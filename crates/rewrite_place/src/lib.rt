@@ -2,7 +2,7 @@
 #![tactic(auto)]
 
 ghost use Rattle.std.specs.Prelude.{◌≡◌, ◌+◌, ◌-◌, ◌*◌, ◌≤◌, ◌<◌, leb, length, IfSome};
-ghost use Rattle.rewrite_count.specs.Parts.{length_with, table_of, CountedTo, RoomFor, RoomFrom, AllKept};
+ghost use Rattle.rewrite_count.specs.Parts.{length_with, table_of, CountedTo, RoomFor, RoomFrom, SameRoom, AllKept};
 ghost use Rattle.rewrite_place.specs.Parts.{HeaderFits, started, placed_area};
 
 use rewrite_count::Count;
@@ -35,7 +35,8 @@ fn put_table(fields: &Fields, out: &mut [u8], k: Count, scratch: &mut Scratch)
     requires room { RoomFor fields.now scratch.old }
     requires kept { IfSome scratch.old.kept (λ found. length_with k.entries k.rows ≤ length out.old
         → AllKept fields.now found scratch.old) }
-    ensures { out.new ≡ placed_area (table_of fields.now.roles.now) out.old }
+    ensures placed { out.new ≡ placed_area (table_of fields.now.roles.now) out.old }
+    ensures same { SameRoom scratch.old scratch.new × (scratch.new.kept ≡ scratch.old.kept) }
 {
     let size = length_of(k);
     let c = fields.roles.layout.counts;
@@ -67,12 +68,14 @@ fn none_kept(roles: usize, n: usize, pairs: usize, marks: usize) -> Option<[usiz
 }
 
 // Counts the table of the roles of a rota that is read, divided and numbered, and writes it where it fits the area: the counts, which are the table's or
-// already too many for the room. There may be more room to count to than the area has.
+// already too many for the room. There may be more room to count to than the area has. The scratch stays as it was lent, but for which roles are kept in
+// it.
 pub fn place_table(fields: &Fields, out: &mut [u8], room: usize, scratch: &mut Scratch) -> Count
     requires area { length out.old ≤ room }
     requires room { RoomFrom fields.now 0 0 scratch.old }
-    ensures { CountedTo (table_of fields.now.roles.now) room result
+    ensures placed { CountedTo (table_of fields.now.roles.now) room result
         × (out.new ≡ placed_area (table_of fields.now.roles.now) out.old) }
+    ensures same { SameRoom (record scratch.old { kept = scratch.new.kept }) scratch.new }
 {
     let roles = fields.roles;
     let count = (roles.end - roles.first) as usize;

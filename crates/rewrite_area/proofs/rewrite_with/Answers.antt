@@ -6,4 +6,4 @@ use Rattle.rewrite_area.proofs.rewrite_with.Goals as goal
 pub returns : goal.returns
 returns g c =
     let k = c.place_table-k in
-    (c.answer.ensures ∙ told (table_of c.args.roles.now) c.args.room k.result k.ensures.0, k.ensures.1)
+    (c.answer.ensures ∙ told (table_of c.args.roles.now) c.args.room k.result k.ensures.placed.0, k.ensures.placed.1)

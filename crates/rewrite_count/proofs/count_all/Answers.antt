@@ -1,10 +1,10 @@
 -- Counts so far are those of the roles so far; where they exceed the room the whole table does too, since it only grows.
-use Rattle.std.proofs.Common.{◌≡◌, ◌≤◌, ◌+◌, ◌-◌, ◌/◌, arith, refl, ap, length, length-drop}
+use Rattle.std.proofs.Common.{◌≡◌, ◌≤◌, ◌+◌, ◌-◌, ◌/◌, arith, ap, length, length-drop}
 use Rattle.rewrite_role.proofs.LocatedLaws.{roles-are}
 use Rattle.rewrite_count.specs.declared.scratch.Scratch.{Scratch}
 use Rattle.rewrite_count.proofs.KeptLaws.{masks-few}
 use Rattle.rewrite_count.proofs.CountLaws.{have-marks, rows-within, entries-stop, counted_stop, counted-all, counting-none, counting-room, counting-next}
-use Rattle.rewrite_count.proofs.ScratchLaws.{room-stays, of-kept, noted-keeps, noted-found, noted-same}
+use Rattle.rewrite_count.proofs.ScratchLaws.{room-same, room-stays, of-kept, noted-keeps, noted-found, noted-same}
 use Rattle.rewrite_count.proofs.count_all.Goals as goal
 
 pub loop-r-init : goal.loop-r-init
@@ -12,7 +12,7 @@ loop-r-init c =
     let ρ = c.args.fields.now.roles.now in
     record {
       counting = counting-none _ _ _ _ _ _ _ _ ρ.range.0 (omega (arith, roles-are ρ.bytes.now ρ.layout ρ.located, ρ.range.1)) (of-kept c.args.scratch.now (λ found. ρ.end ≤ ρ.first + length found) c.requires.found);
-      same = record { pairs = refl; marks = refl; links = refl; trees = refl; kept = refl };
+      same = room-same c.args.scratch.now;
     }
 
 pub derive_at-m-requires-clause-located : goal.derive_at-m-requires-clause-located

@@ -1,10 +1,10 @@
 -- What is left to write of entries and rows, written from here, is the whole: a role's entries and rows come off the front of each.
-use Rattle.std.proofs.Common.{◌≡◌, ℕ, ◌-◌, List, [], arith, ap, refl, get_or, length, length-drop}
+use Rattle.std.proofs.Common.{◌≡◌, ℕ, ◌-◌, List, [], arith, ap, refl, ◌∙◌, get_or, length, length-drop}
 use Rattle.std.specs.Prelude.{Option, is_some, unwrap_or}
 use Rattle.minutes.specs.Believed.Minutes.{E}
 use Rattle.rewrite_role.proofs.LocatedLaws.{roles-are, cycle-fits}
 use Rattle.rewrite_count.proofs.CountLaws.{have-marks, role-rows-are}
-use Rattle.rewrite_count.proofs.ScratchLaws.{of-kept, same-on}
+use Rattle.rewrite_count.proofs.ScratchLaws.{of-kept, room-same, same-on}
 use Rattle.rewrite_count.specs.Parts.{Kept}
 use Rattle.rewrite_fill.proofs.FillLaws.{filling-turn, filling-end, entries-room, rows-room, cuts-to, size_room, held_start, role-room, held_next}
 use Rattle.rewrite_fill.proofs.write_all.Goals as goal
@@ -23,7 +23,8 @@ loop-r-init c =
     record {
       held = held_start _ _ _ _ _ _ _ _ _ _ ρ.range.0 (omega (arith, roles-are ρ.bytes.now ρ.layout ρ.located, ρ.range.1)) c.requires.total_value.0
           (of-kept s (λ found. Kept ρ.bytes.now ρ.first (ρ.end - ρ.first) n found s.pairs.now s.marks.now) c.requires.kept);
-      same = record { pairs = refl; marks = refl; links = refl; trees = refl; kept = refl };
+      same = room-same s;
+      same-kept = refl;
     }
 
 pub role_at-m-requires-clause-located : goal.role_at-m-requires-clause-located
@@ -104,10 +105,14 @@ loop-r-preserved c =
     record {
       held = rw (ap is_some k.ensures.same.1, ap (λ (o : Option (List ℕ)). unwrap_or o []) k.ensures.same.1) (held_next l.invariant.held g same);
       same = same-on l.invariant.same k.ensures.same.0;
+      same-kept = k.ensures.same.1 ∙ l.invariant.same-kept;
     }
 
-pub returns : goal.returns
-returns c =
+pub returns-clause-written : goal.returns-clause-written
+returns-clause-written c =
     let l = c.loop-r in
     let w = l.invariant.held.filling in
     filling-end _ _ _ _ _ l.out l.d l.p l.r w (omega (arith, w.within, c.loop-r-test.false))
+
+pub returns-clause-same : goal.returns-clause-same
+returns-clause-same c = let i = c.loop-r.invariant in (i.same, i.same-kept)

@@ -1,7 +1,7 @@
-use Rattle.std.proofs.Common.{arith}
+use Rattle.std.proofs.Common.{arith, refl}
 use Rattle.std.proofs.lemmas.Option.{IfSome_then}
 use Rattle.rewrite_role.proofs.LocatedLaws.{roles-are}
-use Rattle.rewrite_count.proofs.ScratchLaws.{room-stays}
+use Rattle.rewrite_count.proofs.ScratchLaws.{room-stays, same-on}
 use Rattle.rewrite_place.proofs.RoomLaws.{room-kept-for, counted-within}
 use Rattle.rewrite_place.proofs.place_table.Goals as goal
 
@@ -27,5 +27,19 @@ put_table-requires c =
       kept = IfSome_then k.new.scratch.kept k.ensures.kept (λ found h e. h (omega (arith, c.requires.area)));
     }
 
-pub returns : goal.returns
-returns c = (c.count_all-k.ensures.counted, c.put_table.ensures)
+pub returns-clause-placed : goal.returns-clause-placed
+returns-clause-placed c = (c.count_all-k.ensures.counted, c.put_table.ensures.placed)
+
+pub returns-clause-same : goal.returns-clause-same
+returns-clause-same c =
+    let e = same-on c.count_all-k.ensures.same c.put_table.ensures.same.0 in
+    record {
+      same-pairs = e.same-pairs;
+      same-marks = e.same-marks;
+      same-links = e.same-links;
+      pairs = e.pairs;
+      marks = e.marks;
+      links = e.links;
+      trees = e.trees;
+      kept = refl;
+    }
