@@ -80,7 +80,7 @@ impl Unions {
 }
 
 // The slots whose sets are not empty.
-fn used_in(sets: &[u64; 33]) -> u64
+pub fn used_in(sets: &[u64; 33]) -> u64
     ensures { result ≡ used_in sets.now }
 {
     let mut used = 0;
@@ -117,7 +117,7 @@ fn fill_four(table: &mut [u64; 128], at: usize, a: u64, b: u64, c: u64, d: u64)
 }
 
 // Fills the table: how many groups it has. (A lent array does not tell its length, so that the contract asks it.)
-fn fill(sets: &[u64; 33], used: u64, table: &mut [u64; 128]) -> usize
+pub fn fill(sets: &[u64; 33], used: u64, table: &mut [u64; 128]) -> usize
     requires { (used ≡ used_in sets.now) × (length table.old ≡ 128) }
     ensures { Tabled sets.now table.new result }
 {
@@ -140,7 +140,7 @@ fn fill(sets: &[u64; 33], used: u64, table: &mut [u64; 128]) -> usize
 }
 
 // The union of those of the sets whose slots are in the mask: one lookup for each group, and slot 32 by itself.
-fn union_at(sets: &[u64; 33], table: &[u64; 128], groups: usize, mask: u64) -> u64
+pub fn union_at(sets: &[u64; 33], table: &[u64; 128], groups: usize, mask: u64) -> u64
     requires { Tabled sets.now table.now groups }
     ensures { result ≡ union_of sets.now mask 33 }
 {
