@@ -6,15 +6,15 @@ ghost use Rattle.std.specs.Prelude.{◌≡◌, ◌+◌, ◌*◌, ◌<◌, ◌≤
 ghost use Rattle.bitset.specs.Believed.Sets.{insert, union};
 ghost use Rattle.rewrite_trees.specs.Tree.{Indexed};
 ghost use Rattle.rewrite_unions.specs.Union.{used_in, all_of};
-ghost use Rattle.rewrite_sets.specs.Role.{kept_by};
+ghost use Rattle.rewrite_sets.specs.Role.{role_in, kept_by};
 ghost use Rattle.rewrite_derive.specs.Mark.{mark_at, grown, Marked};
 ghost use Rattle.rewrite_derive.specs.Derive.{Room, DerivedTo};
 
-use rewrite_sets::Role;
+use rewrite_sets::Loaded;
 
 // Where the pair of sets that the role has in a field with this mask stands, among the first d pairs or as the next one, d. None where it has nothing there.
 fn enter_field(
-    role: &Role,
+    role: &Loaded,
     mask: u64,
     pairs: &mut [u64],
     links: &mut [u16],
@@ -23,7 +23,7 @@ fn enter_field(
 ) -> Option<usize>
     requires d_in_bounds { (2 * d + 1 < length pairs.old) × (w + 2 * d + 1 < length links.old) × (d < 33345) × (0 < w) × (w ≤ 65536) × (role.now.on < 64) }
     requires indexed { Indexed w d pairs.old links.old (all_of role.now.users) (all_of role.now.permissions) }
-    ensures { Marked role.now.source (kept_by role.now mask) d pairs.old pairs.new result
+    ensures { Marked role.now.source (kept_by (role_in role.now) mask) d pairs.old pairs.new result
         × Indexed w (grown d result) pairs.new links.new (all_of role.now.users) (all_of role.now.permissions) }
 {
     let x = role.sets_in(mask)?;
@@ -51,7 +51,7 @@ fn mask_at(sets: &[u32], i: usize) -> u64
 }
 
 // The slots that the role names: its own, and those of its users and its permissions.
-fn named(role: &Role) -> u64
+fn named(role: &Loaded) -> u64
     requires { role.now.on < 64 }
     ensures { result ≡ insert (union (used_in role.now.users) (used_in role.now.permissions)) role.now.on }
 {
@@ -73,7 +73,7 @@ fn mark_at(place: Option<usize>) -> usize
 // The marks of the masks with the first n sets of hours, behind that of kind 0, and the pairs of sets that they are the numbers of: how many pairs. The
 // index of the pairs has w trees, and goes by all users and all permissions that the role can have. It stops once it has more than `limit` pairs.
 pub fn derive(
-    role: &Role,
+    role: &Loaded,
     sets: &[u32],
     n: usize,
     limit: usize,
@@ -83,7 +83,7 @@ pub fn derive(
     w: usize,
 ) -> usize
     requires { (role.now.on < 33) × Room n w sets.now pairs.old marks.old links.old }
-    ensures { DerivedTo limit role.now sets.now n pairs.new marks.new result }
+    ensures { DerivedTo limit (role_in role.now) sets.now n pairs.new marks.new result }
 {
     let named = named(role);
     rewrite_index::clear(links, w);

@@ -6,12 +6,12 @@ ghost use Rattle.ground.specs.Believed.Sequence.{list_of};
 ghost use Rattle.rota.specs.Inside.{Located};
 ghost use Rattle.rota.specs.Believed.RotaBytes.{roles_of, rota_of, row_at};
 ghost use Rattle.rewrite_rules.specs.Masks.{slot_of};
-ghost use Rattle.rewrite_sets.specs.Role.{by_slot, role_of};
+ghost use Rattle.rewrite_sets.specs.Role.{role_in, by_slot, role_of};
 ghost use Rattle.rewrite_derive.specs.Derive.{Room};
 ghost use Rattle.rewrite_role.specs.Parts.{RowsFit, SetsAre, RoleDerivedTo};
 
 use hours::HoursRef;
-use rewrite_sets::Role;
+use rewrite_sets::Loaded;
 use rewrite_unions::Unions;
 use rota::Layout;
 
@@ -42,9 +42,9 @@ fn by_slot(s: &[u8], at: usize, n: usize, role: u8) -> [u64; 33]
 }
 
 // Reads role r of a rota, in place: a role that is given back would stand on the stack twice.
-fn read_role(s: &[u8], l: Layout, r: u8, role: &mut Role)
+fn read_role(s: &[u8], l: Layout, r: u8, role: &mut Loaded)
     requires { Located s.now l × (r < roles_of s.now) }
-    ensures { role.new ≡ role_of (rota_of s.now) r }
+    ensures { role_in role.new ≡ role_of (rota_of s.now) r }
 {
     let n = l.counts;
     let at = l.roles_at + r as usize;
@@ -73,7 +73,7 @@ pub fn derive_role(
     requires { Located s.now l × (r < roles_of s.now) × Room n w sets.now pairs.old marks.old links.old × SetsAre s.now sets.now n }
     ensures { RoleDerivedTo limit s.now r n pairs.new marks.new result }
 {
-    let mut role = Role {
+    let mut role = Loaded {
         source: r,
         on: 0,
         users: Unions::none(),

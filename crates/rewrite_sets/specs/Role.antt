@@ -10,7 +10,12 @@ use Rattle.table.specs.Believed.Table.{Entry}
 use Rattle.rewrite_rules.specs.Masks.{slot_of}
 use Rattle.rewrite_trees.specs.Tree.{Within}
 use Rattle.rewrite_sets.specs.declared.Role.{Role}
+use Rattle.rewrite_sets.specs.declared.Loaded.{Loaded}
 use Rattle.rewrite_sets.specs.declared.Sets.{Sets}
+
+-- the role whose unions are at hand
+abbrev pub role_in : Loaded → Role
+role_in ρ = record { source = ρ.source; on = ρ.on; users = ρ.users; permissions = ρ.permissions }
 
 abbrev pub sets_made : ℕ → ℕ → Sets
 sets_made users permissions = record { users = users; permissions = permissions }

@@ -2,7 +2,7 @@ use Rattle.std.proofs.Common.{◌≡◌, ℕ, get_or, refl, sym, ◌∙◌, ap, 
 use Rattle.bitset.specs.Believed.Sets.{insert, intersection}
 use Rattle.rewrite_trees.specs.Tree.{Indexed}
 use Rattle.rewrite_unions.specs.Union.{all_of}
-use Rattle.rewrite_sets.specs.Role.{kept_by}
+use Rattle.rewrite_sets.specs.Role.{role_in, kept_by}
 use Rattle.rewrite_derive.specs.Mark.{grown, Marked}
 use Rattle.rewrite_derive.proofs.NamedLaws.{named-same}
 use Rattle.rewrite_derive.proofs.DeriveLaws.{going_start, going-turn, going-again, deriving-to}
@@ -17,7 +17,7 @@ returns-then-limit-d c = let g = c.loop-i.invariant in deriving-to g.so_far g.ro
 
 pub loop-i-preserved : goal.loop-i-preserved
 loop-i-preserved c =
-    let ρ = c.args.role.now in
+    let ρ = role_in c.args.role.now in
     let l = c.loop-i in
     let g = l.invariant in
     let j = c.if-m-last in
