@@ -1,6 +1,7 @@
 -- How far a record that holds at a minute goes on holding.
 --     halved_none .. halved-all            the search for the first pair that ends after phase x
---     reach-off, reach-on, reach-past      the first pair that ends after x decides, or there is none
+--     reach-off, reach-on                  the first pair that ends after x decides
+--     past-all, reach-past                 there is none
 --     span-out, span-gap, span-in, span-there          out of the record's dates, between its pairs, and in both
 --     spans-none, spans-more, spans-off, spans-past   the records so far, with one more that counts and holds, one that does not hold, and one that does not count
 --     spans_all                            all of them
@@ -103,13 +104,18 @@ module _ (s : List ℕ) (c at : ℕ) (w : RecordReady s c at) where
   module _ (x j : ℕ) where
     module _ (n : ℕ) (count : n ≡ pairs_at s at) (b : FirstEnding s at x n j) where
       -- pair j begins after x
-      pub reach-off : (o : ℕ) → j < n → o ≡ offset_at s (at + 10) j → x < o → pairs_hold x (hours_at s at) ≡ false
+      pub reach-off : (o : ℕ) → j < n → o ≡ offset_at s (at + 10) j → x < o → PhaseSpan c (hours_at s at) x false o
       reach-off o l eo m =
-          sym (clear x
-          (λ i k. ⊎_elim
-          (λ (a : i < j). inr (omega (arith, b.behind i a)))
-          (λ (a : j ≤ i). inl (omega (arith, rising j i a k, eo)))
-          (lt-or-le i j)))
+          record {
+            after = m;
+            in-cycle = omega (arith, (pair-well j (omega arith)).ends, eo);
+            is = λ y p q.
+                clear y
+                (λ i k. ⊎_elim
+                (λ (a : i < j). inr (omega (arith, b.behind i a)))
+                (λ (a : j ≤ i). inl (omega (arith, rising j i a k, eo)))
+                (lt-or-le i j));
+          }
 
       -- x is in pair j
       pub reach-on : (o e : ℕ) → j < n → o ≡ offset_at s (at + 10) j → o ≤ x → e ≡ o + length_at s (at + 10) j
@@ -124,8 +130,11 @@ module _ (s : List ℕ) (c at : ℕ) (w : RecordReady s c at) where
           }
 
       -- x is past the last pair
-      pub reach-past : n ≤ j → pairs_hold x (hours_at s at) ≡ false
-      reach-past m = sym (clear x (λ i k. inr (omega (arith, b.behind i (omega arith)))))
+      pub past-all : (y : ℕ) → x ≤ y → n ≤ j → false ≡ pairs_hold y (hours_at s at)
+      past-all y p m = clear y (λ i k. inr (omega (arith, b.behind i (omega arith))))
+
+      pub reach-past : x < c → n ≤ j → PhaseSpan c (hours_at s at) x false c
+      reach-past l m = record { after = l; in-cycle = le_refl c; is = λ y p q. past-all y p m }
 
 -- ---- dates
 module _ (c : ℕ) (h : Hours) (t : ℕ) where
