@@ -45,7 +45,7 @@ impl<'a> Table<'a> {
     }
 
     // Where row i begins.
-    fn row_place(&self, i: usize) -> usize
+    pub fn row_place(&self, i: usize) -> usize
         requires { i < self.now.counts.rows }
         ensures place { result ≡ 16 + 17 * derived_of self.now.bytes.now + 16 * i }
         ensures inside { result + 16 ≤ length self.now.bytes.now }

@@ -1,10 +1,11 @@
 -- The answer of an accepted table by its rows: the first row that grants has the lowest source role.
+--     row_inside                     where rows and their entries lie
 --     grant-through, through-grant   a role answers exactly when a row of it grants
 --     by_rows, yes-grants            some role answers, and the answer is yes, exactly when a row grants
 --     first-grants, none-grants      the answer, by the first row that grants
 -- Assumes nothing.
 use Rattle.ground.proofs.BoolLaws.{lt-or-le, and_yes, and_both, and-three, clash, not_yes, eq-ext}
-use Prim.Native.Nat.{ℕ, ◌≤◌, ◌<◌}
+use Prim.Native.Nat.{ℕ, ◌+◌, ◌*◌, ◌≤◌, ◌<◌}
 use mathlib.Core.Path.{◌≡◌, refl, sym, ◌∙◌, ap}
 use mathlib.Core.Logic.{⊎_elim}
 use mathlib.Core.List.{List}
@@ -25,7 +26,7 @@ use Rattle.table.specs.Believed.Table.{Row, no_entry, entry_at, enabled, through
 use Rattle.table.specs.Believed.TableBytes.{cycle_of, roles_of, derived_of, rows_of, entry_of, row_of, table_of}
 use Rattle.table.specs.Believed.TableRefusals.{source_of}
 use Rattle.table.specs.Inside.{Opened}
-use Rattle.table_answers.specs.Grants.{covering, row_grants}
+use Rattle.table_answers.specs.Grants.{RowInside, covering, row_grants}
 use Rattle.table.specs.declared.Counts.{Counts}
 use Rattle.table.proofs.HeaderLaws.{counts-are}
 use Rattle.table.proofs.FineLaws.{TableFine, table-fine}
@@ -135,6 +136,17 @@ module _ (s : List ℕ) (f : TableFine s) (u p t : ℕ) where
   answer-none h =
       lowest-none _ _
       (λ j m. not_yes _ (λ e. let k = through-grant j e in clash _ k.granted (h k.row k.below)))
+
+-- the same of the counts that were read
+module _ (s : List ℕ) (n : Counts) (o : Opened s n) where
+  pub row_inside : (i : ℕ) → i < n.rows → RowInside s (16 + 17 * n.derived + 16 * i)
+  unfolding row_of
+  row_inside i l =
+      let e = counts-are s n o.counts in
+      let f = table-fine s o.clear in
+      let w = f.header.whole in
+      let d = (f.rows i (rw (← e.rows) l)).alone.derived in
+      rw e.derived (record { row = omega arith; entry = omega arith })
 
 -- what the loop finds: row i is the first that grants; or no row grants
 module _ (s : List ℕ) (n : Counts) (o : Opened s n) (u p t : ℕ) where

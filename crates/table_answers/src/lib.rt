@@ -5,7 +5,7 @@ ghost use Rattle.std.specs.Prelude.{◌≡◌, ◌<◌};
 ghost use Rattle.policy.specs.Believed.Policy.{holders_at};
 ghost use Rattle.table.specs.Believed.Table.{answer, policy_of};
 ghost use Rattle.table.specs.Believed.TableBytes.{table_of};
-ghost use Rattle.table_answers.specs.Grants.{covering, both_at, row_grants, row_users};
+ghost use Rattle.table_answers.specs.Grants.{RowInside, covering, both_at, both_of, row_grants, row_users};
 
 use table::{Moment, Table};
 
@@ -20,12 +20,21 @@ pub fn row_covers(moment: &Moment<'_>, i: usize) -> bool
         && minutes::in_span(w.offset as u32, w.length as u32, moment.phase)
 }
 
-// Whether the entry of row i has both bits set.
-pub fn has_both(table: &Table<'_>, i: usize, u: u32, p: u32) -> bool
-    requires { (i < table.now.counts.rows) × (u < 64) × (p < 64) }
-    ensures { result ≡ both_at table.now.bytes.now u p i }
+// Whether the entry of the row at `at` has both bits set.
+pub fn has_both(s: &[u8], at: usize, u: u32, p: u32) -> bool
+    requires { RowInside s.now at × (u < 64) × (p < 64) }
+    ensures { result ≡ both_at s.now u p at }
 {
-    bitset::contains(table.users(i), u) && bitset::contains(table.permissions(i), p)
+    let e = 16 + 17 * (endian::read32(s, at) as usize);
+    bitset::contains(endian::read64(s, e + 1), u) && bitset::contains(endian::read64(s, e + 9), p)
+}
+
+// Whether the entry of row i of an accepted table has both bits set.
+pub fn row_has_both(table: &Table<'_>, i: usize, u: u32, p: u32) -> bool
+    requires { (i < table.now.counts.rows) × (u < 64) × (p < 64) }
+    ensures { result ≡ both_of table.now.bytes.now u p i }
+{
+    has_both(table.bytes, table.row_place(i), u, p)
 }
 
 // Whether row i covers the minute, and its entry has both bits set.
@@ -34,7 +43,7 @@ fn row_grants(moment: &Moment<'_>, i: usize, u: u32, p: u32) -> bool
     requires { (i < moment.now.table.counts.rows) × (u < 64) × (p < 64) }
     ensures { result ≡ row_grants moment.now.table.bytes.now u p moment.now.minute i }
 {
-    row_covers(moment, i) && has_both(&moment.table, i, u, p)
+    row_covers(moment, i) && row_has_both(&moment.table, i, u, p)
 }
 
 // The answer of an accepted table: rows go by source role, so the first row that grants has the lowest.

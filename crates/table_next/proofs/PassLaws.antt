@@ -35,7 +35,7 @@ use Rattle.table_answers.specs.Grants.{row_grants}
 use Rattle.table_answers.proofs.SourceLaws.{sources-up}
 use Rattle.table_answers.proofs.GrantLaws.{grants-parts}
 use Rattle.table_answers.proofs.AnswerLaws.{by_rows}
-use Rattle.table_row_times.specs.RowFirst.{row_first}
+use Rattle.table_row_times.specs.RowFirst.{first_of_row}
 use Rattle.table_next.specs.FirstUse.{grants_below, first_of_rows, idle, first_use}
 
 module _ (s : List ℕ) (u p below t i : ℕ) where
@@ -86,9 +86,9 @@ module _ (s : List ℕ) (u p m below : ℕ) where
     pass-met j l e = pass-over j l (λ i a b v h q. absurd (omega arith))
 
     -- row k gives x
-    module _ (x : ℕ) (ex : x ≡ row_first s u p m best k) where
+    module _ (x : ℕ) (ex : x ≡ first_of_row s u p m best k) where
       here : IsFirst m best (λ t. row_grants s u p t k) x
-      unfolding row_first
+      unfolding first_of_row
       here = first-is m best _ x ex
 
       is_row : (i : ℕ) → k ≤ i → i < k + 1 → i ≡ k

@@ -40,7 +40,7 @@ fn pass_rows(
 {
     let mut least = best;
     for k in from..to {
-        let x = table_row_times::row_first(table, k, u, p, m, least);
+        let x = table_row_times::first_of_row(table, k, u, p, m, least);
         if x < least && (table.source(k) as u32) < below {
             if x == m {
                 return x;

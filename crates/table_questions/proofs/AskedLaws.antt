@@ -22,7 +22,7 @@ use Rattle.table.specs.Inside.{Opened}
 use Rattle.table.specs.declared.Counts.{Counts}
 use Rattle.table.proofs.HeaderLaws.{counts-are}
 use Rattle.table.proofs.FineLaws.{table-fine}
-use Rattle.table_answers.specs.Grants.{both_at}
+use Rattle.table_answers.specs.Grants.{both_of}
 use Rattle.table_answers.proofs.GrantLaws.{grants-parts, grants-of}
 use Rattle.table_answers.proofs.AnswerLaws.{grant-through, through-grant}
 use Rattle.table_search.specs.Rows.{row_for}
@@ -40,7 +40,7 @@ module _ (s : List ℕ) (n : Counts) (o : Opened s n) where
   -- row k, and whether its entry has both bits
   module _ (u p : ℕ) where
     -- if a role answers, it is by its row
-    decides : (r t : ℕ) → through (table_of s) u p t r ≡ true → (k : ℕ) × (Some k ≡ row_for s r t) × (both_at s u p k ≡ true)
+    decides : (r t : ℕ) → through (table_of s) u p t r ≡ true → (k : ℕ) × (Some k ≡ row_for s r t) × (both_of s u p k ≡ true)
     decides r t h =
         let g = through-grant s (table-fine s o.clear) u p t r h in
         let z = grants-parts s u p t g.row g.granted in
@@ -49,7 +49,7 @@ module _ (s : List ℕ) (n : Counts) (o : Opened s n) where
     pub decides-none : Decides s u p None false
     decides-none r t e = sym (not_yes _ (λ h. let d = decides r t h in let z : None ≡ Some d.0 = e ∙ sym d.1 in cc))
 
-    pub decides-by : (k : ℕ) (v : Bool) → v ≡ both_at s u p k → Decides s u p (Some k) v
+    pub decides-by : (k : ℕ) (v : Bool) → v ≡ both_of s u p k → Decides s u p (Some k) v
     decides-by k v ev r t e =
         eq-ext _ _
         (λ h.

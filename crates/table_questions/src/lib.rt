@@ -20,7 +20,7 @@ fn row_decides(table: &Table<'_>, row: Option<usize>, u: u32, p: u32) -> bool
     ensures { Decides table.now.bytes.now u p row result }
 {
     match row {
-        Some(k) => table_answers::has_both(table, k, u, p),
+        Some(k) => table_answers::row_has_both(table, k, u, p),
         None => false,
     }
 }

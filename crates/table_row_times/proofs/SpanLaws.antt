@@ -1,6 +1,6 @@
--- The first minute from m on that a window covers, found without a search: of a window, and of a row.
+-- The first minute from m on that a window covers, found without a search: of a window, and of the row at a position.
 -- Assumes nothing.
-use Prim.Native.Nat.{ℕ, ◌+◌, ◌≤◌, ◌<◌, max}
+use Prim.Native.Nat.{ℕ, ◌+◌, ◌*◌, ◌≤◌, ◌<◌, max}
 use mathlib.Core.Path.{◌≡◌}
 use mathlib.Core.Bool.{true}
 use mathlib.Core.List.{List}
@@ -13,11 +13,13 @@ use Rattle.minutes.specs.Believed.Minutes.{E, Window, covers}
 use Rattle.minutes.specs.First.{first_in}
 use Rattle.minutes.proofs.FirstLaws.{first-ge, first-left, first-right, first-le}
 use Rattle.minutes.proofs.WindowLaws.{In, covers-in, in-covers}
-use Rattle.table.specs.Believed.TableBytes.{cycle_of, derived_of, row_of}
+use Rattle.table.specs.Believed.TableBytes.{cycle_of, row_at_byte, row_of}
 use Rattle.table.specs.Inside.{Opened}
 use Rattle.table.specs.declared.Counts.{Counts}
 use Rattle.table.proofs.HeaderLaws.{counts-are}
-use Rattle.table.proofs.FineLaws.{RowAlone, table-fine}
+use Rattle.table.proofs.FineLaws.{table-fine}
+use Rattle.table_answers.proofs.AnswerLaws.{row_inside}
+use Rattle.table_row_times.specs.RowFirst.{RowReady}
 
 -- x is the first minute, from m and the window's begin on, in the window's phase
 module _ (c : ℕ) (w : Window) (m x : ℕ) (some-length : 0 < w.length) (in-cycle : w.offset + w.length ≤ c) (ends : w.end ≤ E)
@@ -61,32 +63,39 @@ module _ (c : ℕ) (w : Window) (m x : ℕ) (some-length : 0 < w.length) (in-cyc
         before = λ v l b. not_yes _ (λ k. omega (arith, least v l k));
       })
 
--- row i of an accepted table has window w, and a is the later of its begin and m
-module _ (s : List ℕ) (n : Counts) (o : Opened s n) (i : ℕ) (l : i < n.rows) (w : Window) (ew : w ≡ (row_of s i).window) (m a : ℕ)
+-- a row of an accepted table is such
+pub row-ready : (s : List ℕ) (n : Counts) → Opened s n → (i : ℕ) → i < n.rows → RowReady s (16 + 17 * n.derived + 16 * i)
+unfolding row_of
+row-ready s n o i l =
+    let e = counts-are s n o.counts in
+    let f = table-fine s o.clear in
+    let a = (f.rows i (omega (arith, e.rows))).alone in
+    record {
+      inside = row_inside s n o i l;
+      ordered = rw e.derived a.ordered;
+      ends = rw e.derived a.ends;
+      some-length = rw e.derived a.some-length;
+      in-cycle = rw e.derived a.in-cycle;
+      cycle-most = f.header.cycle-most;
+    }
+
+-- the row at a position has window w, and a is the later of its begin and m
+module _ (s : List ℕ) (at : ℕ) (r : RowReady s at) (w : Window) (ew : w ≡ (row_at_byte s at).window) (c : ℕ) (ec : c ≡ cycle_of s) (m a : ℕ)
     (ea : a ≡ max w.begin m) where
-  row-alone : RowAlone (derived_of s) (cycle_of s) (row_of s i)
-  row-alone = ((table-fine s o.clear).rows i (omega (arith, (counts-are s n o.counts).rows))).alone
+  window-fits : (0 < w.length) × (w.offset + w.length ≤ c) × (w.end ≤ E) × (w.begin < w.end)
+  window-fits = rw (ew, ec) (r.some-length, r.in-cycle, r.ends, r.ordered)
 
-  cycle : n.cycle ≡ cycle_of s
-  cycle = (counts-are s n o.counts).cycle
-
-  window-fits : (0 < w.length) × (w.offset + w.length ≤ n.cycle) × (w.end ≤ E) × (w.begin < w.end)
-  window-fits = let f = row-alone in rw (ew, cycle) (f.some-length, f.in-cycle, f.ends, f.ordered)
-
-  pub in_reach : m ≤ E → (0 < n.cycle) × (n.cycle ≤ 40320) × (a ≤ E) × (w.offset ≤ n.cycle)
-  in_reach h =
-      let f = window-fits in
-      let k : n.cycle ≤ 40320 = omega (arith, cycle, (table-fine s o.clear).header.cycle-most) in
-      (omega arith, omega arith, omega arith, omega arith)
+  pub in_reach : m ≤ E → (0 < c) × (c ≤ 40320) × (a ≤ E) × (w.offset ≤ c)
+  in_reach h = let f = window-fits in let k = r.cycle-most in (omega arith, omega arith, omega arith, omega arith)
 
   -- x is the first minute from a on in its phase
-  module _ (x : ℕ) (ex : x ≡ first_in n.cycle a w.offset (w.offset + w.length)) where
-    pub covered-at : x < w.end → x ≡ first_from m E (covers (cycle_of s) (row_of s i).window)
+  module _ (x : ℕ) (ex : x ≡ first_in c a w.offset (w.offset + w.length)) where
+    pub covered-at : x < w.end → x ≡ first_from m E (covers (cycle_of s) (row_at_byte s at).window)
     covered-at h =
         let f = window-fits in
-        rw (← cycle, ← ew) (before-end n.cycle w m x f.0 f.1 f.2 (rw ea at ex) h)
+        rw (← ec, ← ew) (before-end c w m x f.0 f.1 f.2 (rw ea at ex) h)
 
-    pub covered-never : w.end ≤ x → E ≡ first_from m E (covers (cycle_of s) (row_of s i).window)
+    pub covered-never : w.end ≤ x → E ≡ first_from m E (covers (cycle_of s) (row_at_byte s at).window)
     covered-never h =
         let f = window-fits in
-        rw (← cycle, ← ew) (past_end n.cycle w m x f.0 f.1 f.2 (rw ea at ex) h)
+        rw (← ec, ← ew) (past_end c w m x f.0 f.1 f.2 (rw ea at ex) h)
