@@ -1,3 +1,4 @@
 pub mod PageLaws
 pub mod EachLaws
 pub mod PageWalk
+pub mod PageLoop

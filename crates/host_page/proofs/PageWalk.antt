@@ -1,4 +1,4 @@
--- A page on a lent list of questions, once for any of this form (the pages of crate softlode are `for` loops, with `&b`): `fn f(questions: &mut [Question], s: &[u8]) -> u32 { let b = begin(questions.len(), s); let mut i = 0; while i < b.count { questions[i] = answer(questions[i], s, b); i += 1; } b.refusal }`, for
+-- A page on a lent list of questions, once for any that counts by hand and passes b by value (the pages of crate softlode are `for` loops, with `&b`: PageLoop.antt): `fn f(questions: &mut [Question], s: &[u8]) -> u32 { let b = begin(questions.len(), s); let mut i = 0; while i < b.count { questions[i] = answer(questions[i], s, b); i += 1; } b.refusal }`, for
 -- either `begin` and its `answer`. The walk is `function`'s, which the check made of such a function's source. The borrow of the list is opened once, before the loop, and closed once, after it. A turn takes one record out of the row, copies it, passes it to `answer`, and puts the
 -- result in its place. The invariant: the first i records are answered (`up_to` of EachLaws.antt).
 --     meets        where `begin` and `answer` meet their contracts, the page meets its own

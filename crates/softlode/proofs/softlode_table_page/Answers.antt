@@ -2,6 +2,19 @@
 use Rattle.std.proofs.Common.{sym, arith}
 use Rattle.host_page.proofs.EachLaws.{up_to-zero}
 use Rattle.host_page.proofs.PageLaws.{page-turn, page-ended}
+use Rattle.source.specs.declared.Kind.TheVariants.{Table}
+use mathlib.Core.Path.{◌≡◌, refl}
+use contract.Running.{tables, tables_of}
+use denote.Triple.Spec.{triple_of}
+use denote.Triple.Table.{entered}
+use Rattle.host_page.proofs.PageLoop.{function, meets}
+use Rattle.host_page.proofs.begin_table.Met as begin
+use Rattle.host_page.proofs.answer_by_table.Met as one
+use Rattle.host_page.proofs.begin_table.Symbol as begin'
+use Rattle.host_page.proofs.answer_by_table.Symbol as one'
+use Rattle.softlode.specs.contracts.softlode_table_page as f
+use Rattle.softlode.proofs.softlode_table_page.Statement.{statement}
+use Rattle.softlode.proofs.softlode_table_page.Code as compiled
 use Rattle.softlode.proofs.softlode_table_page.Goals as goal
 
 pub loop-i-init : goal.loop-i-init
@@ -12,3 +25,15 @@ loop-i-preserved c = page-turn _ _ _ _ _ _ _ c.loop-i.invariant c.answer_by_tabl
 
 pub returns : goal.returns
 returns c = (c.begin_table-b.ensures.judged, page-ended _ _ _ _ _ _ c.begin_table-b.ensures c.loop-i.auto.i-end (omega arith) c.loop-i.invariant)
+
+-- the code is what `meets` is over
+is_function : compiled.function ≡ function begin'.name one'.name
+is_function = refl
+
+-- and so the page has its contract by hand as well
+by_hand : {M : Type 1} → statement M
+unfolding tables_of
+by_hand 𝓤 𝓛 𝓜 𝓡 wired =
+    let 𝓣 = tables 𝓤 𝓛.H 𝓜 𝓡 𝓡.env in
+    entered 𝓤 𝓛.H (triple_of 𝓛 f.signature (f.spec 𝓛 𝓜.mem 𝓡.returns)) 𝓣.C 𝓣.Λ f.Key.name compiled.function (compiled.unfolded 𝓤 𝓛.H 𝓜 𝓡 wired)
+    (meets Table begin'.name one'.name 𝓛 (tables_of 𝓤 𝓛.H 𝓜 𝓣) (begin.met 𝓤 𝓛 𝓜 𝓡 (compiled.calls-host_page::begin_table 𝓡.env wired)) (one.met 𝓤 𝓛 𝓜 𝓡 (compiled.calls-host_page::answer_by_table 𝓡.env wired)))
