@@ -137,8 +137,8 @@ module _ {M : Type 1} {𝓤 : Ura M} (𝓛 : Logic 𝓤) (w : Width) (k : Kind) 
     (step leave into : Callee) where
   open 𝓛 use {H}
 
-  abbrev code : Fn
-  code = function w (tag k) ρ ξ step leave into
+  abbrev compiled : Fn
+  compiled = function w (tag k) ρ ξ step leave into
 
   abbrev Step : Contract 𝓤
   Step = contract_of 𝓛 (step-ended w R) c-step
@@ -217,12 +217,12 @@ module _ {M : Type 1} {𝓤 : Ura M} (𝓛 : Logic 𝓤) (w : Width) (k : Kind) 
         nothing ! $ owned ! (UInt w) (Is (UInt w)) (uint_Makes 𝓛 w) m _ fits $ fjoin ! $ move ! (3 ∷ 0 ∷ []) $ fjoin ! $ move ! (2 ∷ 0 ∷ []) $ fjoin ! $ frame ! $ done !
 
     module _ (C : Calls 𝓤 H) (Λ : Loops 𝓤 H) (fm : FmC 𝓤 H 𝓛.laws C) (known : Triple 𝓤 (C step) Step) (known' : Triple 𝓤 (C leave) Leave) (known'' : Triple 𝓤 (C into) Into) where
-      walk : T (has_ty K'.mir vk) × WT vk → Is (UInt w) m (vint w m ∷ []) → Is (ShrSlice (named 1) κ' u8) s (v ∷ []) → ent 𝓤 (on_entry 𝓛 (lent-ended w).signature (κ, (κ', tt)) (q, (q', tt)) x at) (WpFn 𝓤 H C Λ code (vptr b o ∷ v ∷ vint w m ∷ []) Post)
+      walk : T (has_ty K'.mir vk) × WT vk → Is (UInt w) m (vint w m ∷ []) → Is (ShrSlice (named 1) κ' u8) s (v ∷ []) → ent 𝓤 (on_entry 𝓛 (lent-ended w).signature (κ, (κ', tt)) (q, (q', tt)) x at) (WpFn 𝓤 H C Λ compiled (vptr b o ∷ v ∷ vint w m ∷ []) Post)
       walk gk gm p =
           qed 𝓛 ((‵ (flft κ q) ⊛ ‵ (flft κ' q') ⊛ ‵ ftrue) ∷ ‵ (owns (MutRef (named 0) κ Sv.the_row ∷ ShrSlice (named 1) κ' u8 ∷ UInt w ∷ []) x at) ∷ []) ∵
           move ! (1 ∷ []) $ fsplit ! $ fsplit3 ! $ drop ! $ move ! (3 ∷ []) $ split ! $ move ! (2 ∷ 3 ∷ 0 ∷ []) $
           -- [obs; the borrow; its token; bytes' token; what bytes and m own]
-          enter ! C Λ code (vptr b o ∷ v ∷ vint w m ∷ []) _ $
+          enter ! C Λ compiled (vptr b o ∷ v ∷ vint w m ∷ []) _ $
           alloc_all ! (λ i. pass_all ! refl ((tt, tt), (((shr_slice_Lawful 𝓛 (named 1) κ' u8).typed s (v ∷ []) p).0, (((uint_Lawful 𝓛 w).typed m _ gm).0, tt))) $
           sets ! (agg ! (and_then ! (lit ! (few k)) (no_more !))) refl gk $
           opens ! tt Sv.the_row {h = h} b o (λ vs. spelt ! Sv.the_row (Is Sv.the_row) (shows 𝓛 Sv.the_row) (LL.vals Sv.the_type Sv'.the_laws) (LL.tells Sv.the_type Sv'.the_laws) full_share h vs b o $
@@ -261,12 +261,12 @@ module _ {M : Type 1} {𝓤 : Ura M} (𝓛 : Logic 𝓤) (w : Width) (k : Kind) 
           peeks ! N.the_row (Is N.the_row) (shows 𝓛 N.the_row) (as-Told.to t) (u'' ∷ []) (λ is-t. lands_as ! refl refl ((LL.lawful N.the_type N'.the_laws 𝓛).typed (as-Told.to t) _ is-t).0 $
           returns ! (look_at ! 0 refl) $ free_all ! refl $ by ! (exits gm ws'.1.0 (as-Told.to t) u'' (follows s.now h m r y ws'.1.0 t (stepped refl) left told))))))))))))))))))))
 
-  left-walks : (C : Calls 𝓤 H) (Λ : Loops 𝓤 H) → FmC 𝓤 H 𝓛.laws C → Triple 𝓤 (C step) Step → Triple 𝓤 (C leave) Leave → Triple 𝓤 (C into) Into → Walks 𝓛 (lent-ended w) (stayed w) (WpFn 𝓤 H C Λ code) (lent-clauses w Φ 𝓤)
-  left-walks C Λ fm known known' known'' = walked 𝓛 (lent-ended w) (stayed w) (lent-clauses w Φ 𝓤) (WpFn 𝓤 H C Λ code) (λ κs. (mut_vals, (shr_slice_vals, (uint_vals w, tt)))) (λ κs. (mut_Tells (named 0) κs.0 Sv.the_row, (shr_slice_Tells (named 1) κs.1.0 u8, (uint_Tells w, tt))))
+  left-walks : (C : Calls 𝓤 H) (Λ : Loops 𝓤 H) → FmC 𝓤 H 𝓛.laws C → Triple 𝓤 (C step) Step → Triple 𝓤 (C leave) Leave → Triple 𝓤 (C into) Into → Walks 𝓛 (lent-ended w) (stayed w) (WpFn 𝓤 H C Λ compiled) (lent-clauses w Φ 𝓤)
+  left-walks C Λ fm known known' known'' = walked 𝓛 (lent-ended w) (stayed w) (lent-clauses w Φ 𝓤) (WpFn 𝓤 H C Λ compiled) (λ κs. (mut_vals, (shr_slice_vals, (uint_vals w, tt)))) (λ κs. (mut_Tells (named 0) κs.0 Sv.the_row, (shr_slice_Tells (named 1) κs.1.0 u8, (uint_Tells w, tt))))
       (λ κs qs bounds a g are. via 𝓤 _ (fst∗ 𝓤 _ (emp 𝓤)) (walk κs.0 κs.1.0 qs.0 qs.1.0 bounds a.0.ref_ptr.0 a.0.ref_ptr.1 a.0.ghost_name a.0.now a.1.0 a.1.1.0 C Λ fm known known' known'' ((LE.lawful K.the_type K'.the_laws 𝓛 tt).typed k _ (kind-is k)).0 are.1.1.0 are.1.0))
 
   goes : AllGo 𝓛 2 (lent-ended w).signature.params (lent-ended w).kept (stayed w)
   goes = (Goes-gave_ref 𝓛 2 0 tt (plain (λ _. Sv.the_row)), (Goes-none_slice 𝓛 2 (1 ∷ []) tt (plain (λ _. u8)) yes, (Goes-none 𝓛 2 (λ _. UInt w) yes (λ κs x f. refl), tt)))
 
-  pub meets : (𝓣 : Tables 𝓤 H) → Triple 𝓤 (𝓣.C step) Step → Triple 𝓤 (𝓣.C leave) Leave → Triple 𝓤 (𝓣.C into) Into → Meets 𝓛 (lent-ended w).signature (WpFn 𝓤 H 𝓣.C 𝓣.Λ code) (closing 𝓛 (lent-ended w) (lent-clauses w Φ 𝓤))
-  meets 𝓣 known known' known'' = walk_Meets 𝓛 (lent-ended w) (stayed w) goes (lent-clauses w Φ 𝓤) (WpFn 𝓤 H 𝓣.C 𝓣.Λ code) (WpFn-mono 𝓤 H 𝓛.laws 𝓣 code) (left-walks 𝓣.C 𝓣.Λ (fm_of 𝓤 H 𝓛.laws 𝓣) known known' known'')
+  pub meets : (𝓣 : Tables 𝓤 H) → Triple 𝓤 (𝓣.C step) Step → Triple 𝓤 (𝓣.C leave) Leave → Triple 𝓤 (𝓣.C into) Into → Meets 𝓛 (lent-ended w).signature (WpFn 𝓤 H 𝓣.C 𝓣.Λ compiled) (closing 𝓛 (lent-ended w) (lent-clauses w Φ 𝓤))
+  meets 𝓣 known known' known'' = walk_Meets 𝓛 (lent-ended w) (stayed w) goes (lent-clauses w Φ 𝓤) (WpFn 𝓤 H 𝓣.C 𝓣.Λ compiled) (WpFn-mono 𝓤 H 𝓛.laws 𝓣 compiled) (left-walks 𝓣.C 𝓣.Λ (fm_of 𝓤 H 𝓛.laws 𝓣) known known' known'')

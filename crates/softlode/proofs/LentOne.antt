@@ -1,4 +1,4 @@
--- A thin call over a by-value core, once for any of this form (the calls of src/ are by `machine::leave`): `fn f(service: &mut Service, bytes: &[u8], a: uN) -> Told { let r = step(*service, bytes, a); *service = r.service; r.told }`, at any width N, any callee
+-- A thin call over a by-value core, once for any of this form (the calls of src/ are by `machine::leave`: LeftOne.antt): `fn f(service: &mut Service, bytes: &[u8], a: uN) -> Told { let r = step(*service, bytes, a); *service = r.service; r.told }`, at any width N, any callee
 -- and any relation Φ that the callee ensures of the state passed, the bytes, the number, the state returned and the answer. The walk is `function`'s: the code of such a function but that a compiler may copy `r.service` once more.
 --     meets        where the callee meets its contract, the call meets its own: Φ of the record at entry, the bytes, the number, the record at exit and the answer
 -- Assumes nothing.

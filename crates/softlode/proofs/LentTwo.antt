@@ -1,4 +1,4 @@
--- A thin call over a by-value core, once for any of this form (the calls of src/ are by `machine::leave`): `fn f(service: &mut Service, bytes: &[u8], a: uN, c: uK) -> Told { let r = step(*service, bytes, a, c); *service = r.service; r.told }`, at any widths N and K, any callee
+-- A thin call over a by-value core, once for any of this form (the two asks of src/ leave the record: AskedTwo.antt): `fn f(service: &mut Service, bytes: &[u8], a: uN, c: uK) -> Told { let r = step(*service, bytes, a, c); *service = r.service; r.told }`, at any widths N and K, any callee
 -- and any relation Φ that the callee ensures of the state passed, the bytes, the numbers, the state returned and the answer. The walk is `function`'s: the code of such a function but that a compiler may copy `r.service` once more.
 --     meets        where the callee meets its contract, the call meets its own: Φ of the record at entry, the bytes, the numbers, the record at exit and the answer
 -- Assumes nothing.
