@@ -3,10 +3,10 @@
 --     marked-again                  the mask before again
 --     Deriving, deriving-..         the loop; Going, going-.. with its index and the mask before
 -- Assumes nothing.
-use Prim.Native.Nat.{ℕ, suc, ◌+◌, ◌*◌, ◌<◌, ◌≤◌}
-use mathlib.Core.Path.{◌≡◌, refl, sym, ◌∙◌, ap, ap₂}
+use Prim.Native.Nat.{ℕ, zero, suc, ◌+◌, ◌*◌, ◌<◌, ◌≤◌}
+use mathlib.Core.Path.{◌≡◌, refl, sym, ◌∙◌, ap, ap₂, subst}
 use mathlib.Core.Bool.{Bool}
-use Rattle.std.proofs.Common.{max, Option, None}
+use Rattle.std.proofs.Common.{max, Option, None, Some}
 use mathlib.Core.List.{List, [], ◌∷◌, ◌++◌, append-nil}
 use native.Mathlib.Omega.{arith}
 use native.Mathlib.Numerals.{add-one}
@@ -218,9 +218,33 @@ module _ {role : Role} {sets : List ℕ} {n w : ℕ} {pairs marks links : List �
         room = room-kept g.room lp (length-set marks (i + 1) (mark_at place)) ll;
       }
 
+-- one mask: where its derived role stands, and what is so afterwards
+pub record Turned (role : Role) (w m d : ℕ) (pairs pairs' links' : List ℕ) (d' mark' : ℕ) : Type 0 where
+  pub place : Option ℕ
+  pub mark-is : mark' ≡ mark_at place
+  pub grown-is : d' ≡ grown d place
+  pub marked : Marked role.source (kept_by role m) d pairs pairs' place
+  pub indexed : Indexed w (grown d place) pairs' links' (all_of role.users) (all_of role.permissions)
+
+-- every mark is one of a place
+abbrev placed : ℕ → Option ℕ
+placed zero = None
+placed (suc k) = Some k
+
+mark-placed : (k : ℕ) → mark_at (placed k) ≡ k
+mark-placed zero = refl
+mark-placed (suc k) = add-one k
+
 -- the mask before again
-pub going-again : {role : Role} {sets : List ℕ} {n w : ℕ} {pairs marks links : List ℕ} {d last i m : ℕ} {place : Option ℕ} → Going role sets n w pairs marks links d last (mark_at place) i
-    → m ≡ last → Marked role.source (kept_by role m) d pairs pairs place × Indexed w (grown d place) pairs links (all_of role.users) (all_of role.permissions)
-going-again {d = d} {place = place} g e =
-    let q : max d (mark_at place) ≡ d = omega (arith, g.small) in
-    (rw e (marked-again g.settled g.small), rw q g.indexed)
+pub going-again : {role : Role} {sets : List ℕ} {n w : ℕ} {pairs marks links : List ℕ} {d last mark i m : ℕ} → Going role sets n w pairs marks links d last mark i
+    → m ≡ last → Turned role w m d pairs pairs links d mark
+going-again {role} {pairs = pairs} {d = d} {last = last} {mark = mark} g e =
+    let em : mark_at (placed mark) ≡ mark = mark-placed mark in
+    let q : max d (mark_at (placed mark)) ≡ d = omega (arith, g.small, em) in
+    record {
+      place = placed mark;
+      mark-is = sym em;
+      grown-is = sym q;
+      marked = rw e (marked-again (subst (Settled (entries_to role.source d pairs) (kept_by role last)) (sym em) g.settled) (omega (arith, g.small, em)));
+      indexed = rw q g.indexed;
+    }

@@ -90,7 +90,7 @@ pub fn derive(
     marks[0] = 0;
     let mut d = 0;
     let mut last = 0;
-    let mut place = None;
+    let mut mark = 0;
     for i in 0..n {
         if limit < d {
             return d;
@@ -98,11 +98,10 @@ pub fn derive(
         let m = bitset::both(mask_at(sets, i), named);
         // Neighbours often differ only in hours that the role does not name.
         if m != last {
-            place = enter_field(role, m, pairs, links, w, d);
+            mark = mark_at(enter_field(role, m, pairs, links, w, d));
+            d = d.max(mark);
             last = m;
         }
-        let mark = mark_at(place);
-        d = d.max(mark);
         marks[i + 1] = mark as u16;
     }
     d

@@ -51,6 +51,10 @@ pub fn answer_in(table: &Table<'_>, u: u32, p: u32, t: u32) -> Option<u8>
     requires { (u < table.now.counts.users) × (p < table.now.counts.permissions) }
     ensures { result ≡ answer (table_of table.now.bytes.now) u p t }
 {
+    // Where there are none, no phase is asked for.
+    if table.rows() == 0 {
+        return None;
+    }
     let moment = table.at(t);
     for k in 0..table.rows() {
         if row_grants(&moment, k, u, p) {

@@ -1,11 +1,8 @@
-use Rattle.std.proofs.Common.{◌≡◌, ℕ, get_or, refl, sym, ◌∙◌, ap, arith}
+use Rattle.std.proofs.Common.{◌≡◌, ℕ, max, get_or, refl, sym, ◌∙◌, ap, arith}
 use Rattle.bitset.specs.Believed.Sets.{insert, intersection}
-use Rattle.rewrite_trees.specs.Tree.{Indexed}
-use Rattle.rewrite_unions.specs.Union.{all_of}
 use Rattle.rewrite_sets.specs.Role.{role_in, kept_by}
-use Rattle.rewrite_derive.specs.Mark.{grown, Marked}
 use Rattle.rewrite_derive.proofs.NamedLaws.{named-same}
-use Rattle.rewrite_derive.proofs.DeriveLaws.{going_start, going-turn, going-again, deriving-to}
+use Rattle.rewrite_derive.proofs.DeriveLaws.{Turned, going_start, going-turn, going-again, deriving-to}
 use Rattle.rewrite_derive.proofs.derive.Goals as goal
 use Rattle.rewrite_derive.proofs.derive.Goals.{then-m-last, else-m-last}
 
@@ -24,14 +21,13 @@ loop-i-preserved c =
     let m = c.both-m.result in
     let named = c.named-named.result in
     let same : kept_by ρ m ≡ kept_by ρ (insert (get_or c.args.sets.now l.i 0) 32) = ap (kept_by ρ) (c.both-m.ensures ∙ ap (λ (x : ℕ). intersection x named) c.mask_at.ensures) ∙ named-same ρ named c.named-named.ensures c.requires.0 _ in
-    let step : Marked ρ.source (kept_by ρ m) l.d l.pairs j.pairs j.place × Indexed c.args.w (grown l.d j.place) j.pairs j.links (all_of ρ.users) (all_of ρ.permissions) × (j.last ≡ m) =
+    let step : Turned ρ c.args.w m l.d l.pairs j.pairs j.links j.d j.mark × (j.last ≡ m) =
     elim j.branch [
-      | then-m-last w ↦ rw (w.pairs-is, w.links-is, w.last-is, w.place-is) (w.enter_field-place.ensures.0, w.enter_field-place.ensures.1, refl)
-      | else-m-last w ↦
-          let z = going-again g w.if-m-last.false in
-          rw (w.pairs-is, w.links-is, w.last-is, w.place-is) (z.0, z.1, sym w.if-m-last.false)
+      | then-m-last w ↦ rw (w.pairs-is, w.links-is, w.last-is, w.mark-is, w.d-is) (record { place = w.enter_field.result; mark-is = w.mark_at-mark.ensures; grown-is = w.max-d.ensures ∙ ap (max l.d) w.mark_at-mark.ensures; marked = w.enter_field.ensures.0; indexed = w.enter_field.ensures.1 }, refl)
+      | else-m-last w ↦ rw (w.pairs-is, w.links-is, w.last-is, w.mark-is, w.d-is) (going-again g w.if-m-last.false, sym w.if-m-last.false)
     ] in
-    rw (c.max-d.ensures, c.mark_at-mark.ensures, step.2) (going-turn g j.pairs j.links m j.place c.loop-i-test.true same step.0 step.1 j.auto.pairs j.auto.links)
+    let s = step.0 in
+    rw (s.grown-is, s.mark-is, step.1) (going-turn g j.pairs j.links m s.place c.loop-i-test.true same s.marked s.indexed j.auto.pairs j.auto.links)
 
 pub returns : goal.returns
 returns c = let g = c.loop-i.invariant in deriving-to g.so_far g.room.for-sets c.args.limit (λ h. c.loop-i-test.false)

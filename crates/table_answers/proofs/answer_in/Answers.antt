@@ -6,6 +6,11 @@ use Rattle.table.proofs.OpenedLaws.{opened-header}
 use Rattle.table_answers.proofs.AnswerLaws.{first-grants, none-grants}
 use Rattle.table_answers.proofs.answer_in.Goals as goal
 
+pub returns-then-rows-eq0 : goal.returns-then-rows-eq0
+returns-then-rows-eq0 c =
+    let e : 0 ≡ c.args.table.now.counts.rows = omega (arith, c.if-rows-eq0.true, c.rows.ensures) in
+    none-grants _ _ c.args.table.now.opened c.args.u c.args.p c.args.t (rw (← e) (any_none _))
+
 pub loop-k-init : goal.loop-k-init
 loop-k-init c = any_none _
 
