@@ -17,7 +17,7 @@ use lib.WfN.{lt-wf_rel}
 use lib.Dec.{T as Holds, ltb, lt→ltb, ltb→lt, nltb→le, lit<}
 use seplogic.Ra.Ura.{Ura}
 use base.Fraction.{full_share}
-use mir.Syntax.{Callee, Ty, Fn, Body, named, erased, imm, mut, w8, w32, w64, ty_int, ty_bool, ty_ptr, ty_ref, deref, field, place, copy, int, local, value_local, memory_slot, seq, assign, return, call, cond, skip, exit, block, loop, rv_opd, op2, addr_of, lt, mul, add, offset, unsigned}
+use mir.Syntax.{Callee, Ty, Fn, Body, named, erased, imm, w8, w32, w64, ty_int, ty_bool, ty_ptr, ty_ref, deref, field, place, copy, int, local, value_local, memory_slot, seq, assign, call, cond, skip, exit, block, loop, rv_opd, op2, addr_of, lt, mul, add, offset, unsigned}
 use mir.Val.{Val, vint, vptr, vbool}
 use base.Logic.{SProp, ent, emp, via, fst∗, snd∗, ex_e, id⊢}
 use base.Fml.{GName, Lft, Share, Fml, ftrue, fat, froom, fdies, flft, flent, fobs, fauth, fbor, fobor}
@@ -36,10 +36,10 @@ use denote.Laws.{Is, shows}
 use denote.Memory.{pointee, cell_at, part_at}
 use denote.Copied.{told_in, told_out}
 use denote.Plain.{UInt, uint_row_laws, uint_Makes, uint_Lawful}
-use denote.Builtin.{u8, RefOf, SliceRefOf, SliceRefMutOf}
+use denote.Builtin.{u8, RefOf, SliceRefOf}
 use denote.Ref.{Bor, MutBor, ShrRef, shr_copy}
 use denote.Signature.{plain}
-use denote.Slice.{slice_ty, slice_val, ShrSlice, MutSlice, Room, heres, mut_slice_at, coded_holeys, shr_slice_vals, mut_slice_vals, shr_slice_Tells, mut_slice_Tells, shr_slice_Lawful, mut_slice_Lawful, shr_slice_copy}
+use denote.Slice.{slice_val, ShrSlice, MutSlice, Room, heres, mut_slice_at, coded_holeys, shr_slice_vals, mut_slice_vals, shr_slice_Tells, mut_slice_Tells, shr_slice_Lawful, mut_slice_Lawful, shr_slice_copy}
 use denote.Lend.{Held, lends_free}
 use denote.Index.{row, place_is, opens_slice, closes_slice, elem_out, elem_put}
 use denote.Steps.{only, owned, peeks, heard, nothing}
@@ -49,41 +49,27 @@ use denote.Triple.Call.{calls_at}
 use denote.Triple.Clauses.{Clauses, Ended, closing, ensured, lasts}
 use denote.Triple.Entry.{on_entry}
 use denote.Triple.Spec.{Meets, triple_of}
-use denote.Triple.Walked.{says, Stays, stay_slice, stay_none_slice, walk_of, AllGo, Goes-slice, Goes-none_slice, Walks, ends_at, walked, walk_Meets}
+use denote.Triple.Walked.{says, walk_of, AllGo, Goes-slice, Goes-none_slice, Walks, ends_at, walked, walk_Meets}
 use denote.Exit.{yes}
 use Rattle.source.specs.declared.Kind.{Kind}
-use Rattle.host_page.specs.Believed.Page.{answered, page_judged, page_after}
+use Rattle.host_page.specs.Believed.Page.{answered}
 use Rattle.host_page.specs.Inside.{Ready, Begins}
 use Rattle.host_page.specs.declared.Begun.{Begun}
 use Rattle.host_page.specs.declared.Question.{Question}
 use Rattle.host_page.proofs.EachLaws.{up_to, up_to-zero, up_to-length, up_to-set}
 use Rattle.host_page.proofs.PageLaws.{counted-few, counted_ready, page-done}
+use Rattle.host_page.proofs.PageWalk.{begin-ended, page-ended, begin-clauses, page-clauses, Begin, word, qs-ty, bytes-ty, rest, stayed, vals, none, holds, fails}
 use Rattle.host_page.specs.contracts.Question as Q
 use Rattle.host_page.proofs.Question.TheLaws as Q'
 use Rattle.host_page.specs.contracts.Begun as B
 use Rattle.host_page.proofs.Begun.TheLaws as B'
 
--- ---- the contracts of `begin`, of `answer` and of the page
-abbrev pub begin-ended : Ended
-begin-ended = record {
-  signature = record { lifetimes = 1; outlives = []; params = plain (λ _. UInt w64) ∷ SliceRefOf (0 ∷ []) tt (plain (λ _. u8)) (λ _. tt) ∷ []; result = plain (λ _. B.the_row) };
-  kept = (yes, (yes, tt));
-}
-
+-- ---- the contract of `answer`; those of `begin` and of the page are PageWalk.antt's
 abbrev pub one_ended : Ended
 one_ended = record {
   signature = record { lifetimes = 2; outlives = []; params = plain (λ _. Q.the_row) ∷ SliceRefOf (0 ∷ []) tt (plain (λ _. u8)) (λ _. tt) ∷ RefOf (1 ∷ []) tt (plain (λ _. B.the_row)) (λ _. tt) ∷ []; result = plain (λ _. Q.the_row) };
   kept = (yes, (yes, (yes, tt)));
 }
-
-abbrev pub page-ended : Ended
-page-ended = record {
-  signature = record { lifetimes = 2; outlives = []; params = SliceRefMutOf (0 ∷ []) tt (plain (λ _. Q.the_row)) (λ _. tt) ∷ SliceRefOf (1 ∷ []) tt (plain (λ _. u8)) (λ _. tt) ∷ []; result = plain (λ _. UInt w32) };
-  kept = (yes, (yes, tt));
-}
-
-abbrev pub begin-clauses : Kind → {M : Type 1} (𝓤 : Ura M) → Clauses 𝓤 begin-ended
-begin-clauses k 𝓤 κs a = record { ghost = Unit {0}; requires = λ _. emp 𝓤; ensures = λ _ r e. fact 𝓤 (Begins k a.0 a.1.0.now r) }
 
 abbrev pub one-clauses : Kind → {M : Type 1} (𝓤 : Ura M) → Clauses 𝓤 one_ended
 one-clauses k 𝓤 κs a = record {
@@ -92,25 +78,10 @@ one-clauses k 𝓤 κs a = record {
   ensures = λ _ r e. fact 𝓤 (r ≡ answered k a.1.0.now a.0);
 }
 
-abbrev pub page-clauses : Kind → {M : Type 1} (𝓤 : Ura M) → Clauses 𝓤 page-ended
-page-clauses k 𝓤 κs a = record { ghost = Unit {0}; requires = λ _. emp 𝓤; ensures = λ _ r e. fact 𝓤 ((r ≡ page_judged k (length a.0.now) a.1.0.now) × (e.0.now ≡ page_after k a.1.0.now a.0.now)) }
-
-abbrev pub Begin : Kind → {M : Type 1} {𝓤 : Ura M} (𝓛 : Logic 𝓤) → Contract 𝓤
-Begin k {𝓤 = 𝓤} 𝓛 = triple_of 𝓛 begin-ended.signature (closing 𝓛 begin-ended (begin-clauses k 𝓤))
-
 abbrev pub One : Kind → {M : Type 1} {𝓤 : Ura M} (𝓛 : Logic 𝓤) → Contract 𝓤
 One k {𝓤 = 𝓤} 𝓛 = triple_of 𝓛 one_ended.signature (closing 𝓛 one_ended (one-clauses k 𝓤))
 
 -- ---- the code
-abbrev word : Ty
-word = ty_int w64
-
-abbrev qs-ty : Ty
-qs-ty = slice_ty (ty_ref (named 0) mut (pointee (Q.the_row).written))
-
-abbrev bytes-ty : Ty
-bytes-ty = slice_ty (ty_ref (named 1) imm (ty_int w8))
-
 abbrev begun-ty : Ty
 begun-ty = ty_ref erased imm (pointee (B.the_row).written)
 
@@ -126,9 +97,6 @@ turn one = seq (assign (place 8 []) (op2 (lt unsigned) (copy (place 4 [])) (copy
     (seq (assign (place 15 []) (op2 offset (copy (place 1 (field 0 ∷ []))) (copy (place 14 []))))
     (seq (assign (place 15 (deref Q'.mir ∷ [])) (rv_opd (copy (place 9 []))))
     (assign (place 4 []) (op2 (add unsigned) (copy (place 4 [])) (int w64 1))))))))))))
-
-abbrev rest : Body
-rest = seq (assign (place 0 []) (rv_opd (copy (place 3 (field 0 ∷ []))))) return
 
 abbrev pub function : Callee → Callee → Fn
 function key one = record {
@@ -146,26 +114,8 @@ function key one = record {
       (seq (block (loop (turn one))) rest)))));
 }
 
-abbrev stayed : Stays page-ended.signature.params page-ended.kept
-stayed = (stay_slice (0 ∷ []) tt (plain (λ _. Q.the_row)), (stay_none_slice (1 ∷ []) tt (plain (λ _. u8)) yes, tt))
-
-abbrev vals : Question → List Val
-vals = LL.vals Q.the_type Q'.the_laws
-
 abbrev begun-vals : Begun → List Val
 begun-vals = LL.vals B.the_type B'.the_laws
-
--- what no index below a length reads
-abbrev none : Question
-none = record { user = 0; permission = 0; minute = 0; answer = record { refusal = 0; yes = 0; role = 0 } }
-
-holds : (t : Bool) → Holds t → t ≡ true
-holds true _ = refl
-holds false a = absurd a
-
-fails : (t : Bool) → (Holds t → ⊥) → t ≡ false
-fails true f = absurd (f tt)
-fails false _ = refl
 
 module _ (k : Kind) (key one : Callee) {M : Type 1} {𝓤 : Ura M} (𝓛 : Logic 𝓤) (κ κ' : Lft) (q q' : Share) (bounds : AllOutlive 2 page-ended.signature.outlives (κ, (κ', tt))) (b o : ℕ) (γ : GName) (xs : List Question) (s : Bor (List ℕ)) where
   open 𝓛 use {H}

@@ -3,7 +3,7 @@
 -- result in its place. The invariant: the first i records are answered (`up_to` of EachLaws.antt).
 --     meets        where `begin` and `answer` meet their contracts, the page meets its own
 -- Assumes nothing.
-use mathlib.Core.Path.{◌≡◌, refl, sym, ap, ◌∙◌, subst}
+use mathlib.Core.Path.{◌≡◌, refl, sym, ap, subst}
 use mathlib.Core.Bool.{Bool, true, false, not}
 use Prim.Native.Nat.{ℕ, ◌+◌, ◌-◌, ◌*◌, ◌≤◌, ◌<◌, ◌^◌, zero-le}
 use native.Mathlib.Nat.{le_antisymm}
@@ -100,13 +100,13 @@ abbrev pub One : Kind → {M : Type 1} {𝓤 : Ura M} (𝓛 : Logic 𝓤) → Co
 One k {𝓤 = 𝓤} 𝓛 = triple_of 𝓛 one_ended.signature (closing 𝓛 one_ended (one-clauses k 𝓤))
 
 -- ---- the code
-abbrev word : Ty
+abbrev pub word : Ty
 word = ty_int w64
 
-abbrev qs-ty : Ty
+abbrev pub qs-ty : Ty
 qs-ty = slice_ty (ty_ref (named 0) mut (pointee (Q.the_row).written))
 
-abbrev bytes-ty : Ty
+abbrev pub bytes-ty : Ty
 bytes-ty = slice_ty (ty_ref (named 1) imm (ty_int w8))
 
 abbrev turn : Callee → Body
@@ -121,7 +121,7 @@ turn one = seq (assign (place 6 []) (op2 (lt unsigned) (copy (place 4 [])) (copy
     (seq (assign (place 12 (deref Q'.mir ∷ [])) (rv_opd (copy (place 7 []))))
     (assign (place 4 []) (op2 (add unsigned) (copy (place 4 [])) (int w64 1)))))))))))
 
-abbrev rest : Body
+abbrev pub rest : Body
 rest = seq (assign (place 0 []) (rv_opd (copy (place 3 (field 0 ∷ []))))) return
 
 abbrev pub function : Callee → Callee → Fn
@@ -138,21 +138,21 @@ function key one = record {
       (seq (block (loop (turn one))) rest)));
 }
 
-abbrev stayed : Stays page-ended.signature.params page-ended.kept
+abbrev pub stayed : Stays page-ended.signature.params page-ended.kept
 stayed = (stay_slice (0 ∷ []) tt (plain (λ _. Q.the_row)), (stay_none_slice (1 ∷ []) tt (plain (λ _. u8)) yes, tt))
 
-abbrev vals : Question → List Val
+abbrev pub vals : Question → List Val
 vals = LL.vals Q.the_type Q'.the_laws
 
 -- what no index below a length reads
-abbrev none : Question
+abbrev pub none : Question
 none = record { user = 0; permission = 0; minute = 0; answer = record { refusal = 0; yes = 0; role = 0 } }
 
-holds : (t : Bool) → Holds t → t ≡ true
+pub holds : (t : Bool) → Holds t → t ≡ true
 holds true _ = refl
 holds false a = absurd a
 
-fails : (t : Bool) → (Holds t → ⊥) → t ≡ false
+pub fails : (t : Bool) → (Holds t → ⊥) → t ≡ false
 fails true f = absurd (f tt)
 fails false _ = refl
 
